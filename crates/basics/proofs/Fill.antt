@@ -1,0 +1,111 @@
+-- Loops that write: a list filled from its front with f 0, f 1 and so on, by single stores or by lent parts, and a byte packed from its highest bit.
+-- `Filled` is the invariant of every such loop. Assumes nothing.
+use mathlib.Core.Path.{_≡_, refl, sym, ap, ap₂, _∙_}
+use mathlib.Core.List.{List, [], _∷_, _++_, append-assoc, append-nil}
+use Prim.Native.Nat.{ℕ, zero, suc, _+_, _-_, _*_, _≤_, _<_, min}
+use native.Mathlib.Nat.{add-zero, add-suc, suc-add, zero-add, lt-of-lt-of-le}
+use native.Mathlib.Numerals.{add-one}
+use native.Mathlib.Decide.{decLt}
+use native.Mathlib.Omega.{arith}
+use lib.ListN.{length, getD, take, drop, set, length-set, length-append, length-take, length-drop, drop-of-length-le}
+use lib.Seq.{drop-cons, drop-drop, drop-length, set-at, take-at, drop-at, getD-take}
+use lib.Pow.{pow-mono}
+use borrow.Rule.Slice.PartMut.{putMid}
+use Rattle.basics.specs.Bytes.{from, build, pack, over}
+use Rattle.basics.proofs.Bytes.{length-build, build-snoc, build-append, build-ext, build-is, pack-ext, pack-small}
+
+-- ---- now has f's first i entries, and then what old had
+
+pub record Filled (f : ℕ → ℕ) (i : ℕ) (old now : List ℕ) : Type 0 where
+  pub within : i ≤ length old
+  pub long : length now ≡ length old
+  pub holds : now ≡ build i f ++ drop i old
+
+pub filled-none : (f : ℕ → ℕ) (old : List ℕ) → Filled f 0 old old
+unfolding build from
+filled-none f old = record { within = omega arith; long = refl; holds = refl }
+
+filled-suc : (f : ℕ → ℕ) (i : ℕ) (old : List ℕ) → i < length old → set (build i f ++ drop i old) i (f i) ≡ build (suc i) f ++ drop (suc i) old
+filled-suc f i old h =
+    ap (λ (t : List ℕ). set (build i f ++ t) i (f i)) (drop-cons old i 0 h)
+    ∙ set-at (build i f) (getD old i 0) (drop (suc i) old) (f i) i (length-build i f)
+    ∙ sym (append-assoc (build i f) (f i ∷ []) (drop (suc i) old))
+    ∙ ap (λ (t : List ℕ). t ++ drop (suc i) old) (sym (build-snoc i f))
+
+pub filled-more : {f : ℕ → ℕ} {i v : ℕ} {old now : List ℕ} → Filled f i old now → i < length old → v ≡ f i → Filled f (i + 1) old (set now i v)
+filled-more {f} {i} {v} {old} {now} z l hv = record {
+  within = omega arith;
+  long = length-set now i v ∙ z .long;
+  holds = ap (λ (t : List ℕ). set t i v) (z .holds) ∙ ap (λ (x : ℕ). set (build i f ++ drop i old) i x) hv
+      ∙ filled-suc f i old l ∙ ap (λ (k : ℕ). build k f ++ drop k old) (sym (add-one i));
+}
+
+pub filled-end : {f : ℕ → ℕ} {i len : ℕ} {old now : List ℕ} → Filled f i old now → length old ≡ len → len ≤ i → now ≡ build len f
+filled-end {f} {i} {len} {old} {now} z hl h =
+    let full : i ≡ length old = omega arith in
+    z .holds ∙ ap (λ (k : ℕ). build k f ++ drop k old) full
+    ∙ ap (λ (t : List ℕ). build (length old) f ++ t) (drop-length old) ∙ append-nil (build (length old) f)
+    ∙ ap (λ (k : ℕ). build k f) hl
+
+-- ---- a part of a list that was lent and came back: after p stands ys in the place of k elements
+
+pub put-next : (a k : ℕ) (p r ys : List ℕ) → length p ≡ a → putMid a k (p ++ r) ys ≡ (p ++ ys) ++ drop k r
+put-next a k p r ys h = rw (take-at p r a h, drop-at p r a h, append-assoc)
+
+-- a part of k entries, lent from i to e and filled by a call
+pub filled-part : (k : ℕ) {f : ℕ → ℕ} {i e : ℕ} {old now ys : List ℕ} → Filled f i old now → e ≡ i + k → e ≤ length old
+    → ys ≡ build k (λ p. f (i + p)) → Filled f e old (putMid i (e - i) now ys)
+filled-part k {f} {i} {e} {old} {now} {ys} z he l hy =
+    let size : e - i ≡ k = omega arith in
+    let holds : putMid i (e - i) now ys ≡ build e f ++ drop e old
+    = ap (λ (t : List ℕ). putMid i (e - i) t ys) (z .holds) ∙ put-next i (e - i) (build i f) (drop i old) ys (length-build i f)
+    ∙ ap (λ (t : List ℕ). (build i f ++ t) ++ drop (e - i) (drop i old)) hy
+    ∙ ap (λ (t : List ℕ). t ++ drop (e - i) (drop i old)) (sym (build-append i k f))
+    ∙ ap (λ (t : List ℕ). build (i + k) f ++ t) (ap (λ (x : ℕ). drop x (drop i old)) size ∙ drop-drop k i old)
+    ∙ ap (λ (x : ℕ). build x f ++ drop x old) (sym he) in
+    record {
+      within = l;
+      long = ap length holds ∙ length-append (build e f) (drop e old) ∙ simp (length-build, length-drop) (omega arith);
+      holds = holds;
+    }
+
+-- a copy of the front of s, as far as both reach
+pub filled-copy : (s : List ℕ) {old now : List ℕ} {i : ℕ} → Filled (λ p. getD s p 0) i old now → i ≡ min (length s) (length old) → now ≡ over s old
+unfolding over
+filled-copy s {old} {now} {i} z e =
+    let hs : i ≤ length s = omega arith in
+    z .holds ∙ ap₂ (λ (a b : List ℕ). a ++ b)
+    (build-is i (λ p. getD s p 0) (take (length old) s) (length-take (length old) s ∙ omega arith) (λ p h. sym (getD-take (length old) s p 0 (omega (arith, z .within)))))
+    (rest (decLt (length s) (length old)))
+  where
+    rest : Dec (length s < length old) → drop i old ≡ drop (length s) old
+    rest (yes h) = let same : i ≡ length s = omega arith in ap (λ (n : ℕ). drop n old) same
+    rest (no h) = drop-of-length-le old {i = i} (omega arith) ∙ sym (drop-of-length-le old {i = length s} (omega arith))
+
+-- ---- a byte packed from its highest bit down
+
+pub pack-down : (n e : ℕ) (f : ℕ → ℕ) → pack (suc n) (λ x. f (e + x)) ≡ pack n (λ x. f (suc e + x)) * 2 + f e
+unfolding pack
+pack-down n e f =
+    ap₂ (λ (x y : ℕ). x * 2 + y)
+    (pack-ext n (λ x. f (e + suc x)) (λ x. f (suc e + x)) (λ x h. ap f (add-suc e x ∙ sym (suc-add e x)))) (ap f (add-zero e))
+
+-- eight bits, from bit e on, of a number packed by a loop that goes down to e
+abbrev pub packed : (ℕ → ℕ) → ℕ → ℕ
+packed f e = pack (8 - e) (λ x. f (e + x))
+
+pub packed-none : (f : ℕ → ℕ) → packed f 8 ≡ 0
+unfolding pack
+packed-none f = refl
+
+pub packed-more : (f : ℕ → ℕ) (e : ℕ) → 0 < e → e ≤ 8 → packed f (e - 1) ≡ packed f e * 2 + f (e - 1)
+packed-more f e h g =
+    ap (λ (n : ℕ). pack n (λ x. f (e - 1 + x))) (let q : 8 - (e - 1) ≡ suc (8 - e) = omega arith in q)
+    ∙ pack-down (8 - e) (e - 1) f
+    ∙ ap (λ (n : ℕ). pack (8 - e) (λ x. f (n + x)) * 2 + f (e - 1)) (let q : suc (e - 1) ≡ e = omega arith in q)
+
+pub packed-end : (f : ℕ → ℕ) → packed f 0 ≡ pack 8 f
+packed-end f = pack-ext 8 (λ x. f (0 + x)) f (λ x h. ap f (zero-add x))
+
+pub packed-small : (f : ℕ → ℕ) (e : ℕ) → ((x : ℕ) → f x < 2) → 0 < e → packed f e < 128
+packed-small f e d h = lt-of-lt-of-le (pack-small (8 - e) (λ x. f (e + x)) (λ x. d (e + x))) (pow-mono {j = 7} (omega arith))

@@ -1,0 +1,5 @@
+pub mod Bytes
+pub mod Fill
+pub mod First
+pub mod Verdicts
+pub mod Padding

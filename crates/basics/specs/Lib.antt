@@ -1,0 +1,5 @@
+pub mod Choice
+pub mod Bytes
+pub mod First
+pub mod Padding
+pub mod Verdicts
