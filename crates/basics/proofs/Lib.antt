@@ -1,3 +1,4 @@
+pub mod Choice
 pub mod Bytes
 pub mod Fill
 pub mod First
