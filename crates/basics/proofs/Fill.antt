@@ -8,7 +8,7 @@ use native.Mathlib.Numerals.{add-one}
 use native.Mathlib.Decide.{decLt}
 use native.Mathlib.Omega.{arith}
 use lib.ListN.{length, getD, take, drop, set, length-set, length-append, length-take, length-drop, drop-of-length-le}
-use lib.Seq.{drop-cons, drop-drop, drop-length, set-at, take-at, drop-at, getD-take}
+use lib.Seq.{drop-cons, drop-drop, drop-length, set-at, take-at, drop-at, getD-take, getD-drop}
 use lib.Pow.{pow-mono}
 use borrow.Rule.Slice.PartMut.{putMid}
 use Rattle.basics.specs.Bytes.{from, build, pack, over}
@@ -39,6 +39,16 @@ filled-more {f} {i} {v} {old} {now} z l hv = record {
   holds = ap (λ (t : List ℕ). set t i v) (z .holds) ∙ ap (λ (x : ℕ). set (build i f ++ drop i old) i x) hv
       ∙ filled-suc f i old l ∙ ap (λ (k : ℕ). build k f ++ drop k old) (sym (add-one i));
 }
+
+-- what is not filled yet is what it was
+pub filled-drop : {f : ℕ → ℕ} {i : ℕ} {old now : List ℕ} → Filled f i old now → drop i now ≡ drop i old
+filled-drop {f} {i} {old} {now} z = ap (drop i) (z .holds) ∙ drop-at (build i f) (drop i old) i (length-build i f)
+
+pub filled-rest : {f : ℕ → ℕ} {i : ℕ} {old now : List ℕ} → Filled f i old now → (p : ℕ) → getD now (i + p) 0 ≡ getD old (i + p) 0
+filled-rest {f} {i} {old} {now} z p = sym (getD-drop i now p 0) ∙ ap (λ (t : List ℕ). getD t p 0) (filled-drop z) ∙ getD-drop i old p 0
+
+pub filled-here : {f : ℕ → ℕ} {i : ℕ} {old now : List ℕ} → Filled f i old now → getD now i 0 ≡ getD old i 0
+filled-here {f} {i} {old} {now} z = ap (λ (n : ℕ). getD now n 0) (sym (add-zero i)) ∙ filled-rest z 0 ∙ ap (λ (n : ℕ). getD old n 0) (add-zero i)
 
 pub filled-end : {f : ℕ → ℕ} {i len : ℕ} {old now : List ℕ} → Filled f i old now → length old ≡ len → len ≤ i → now ≡ build len f
 filled-end {f} {i} {len} {old} {now} z hl h =
