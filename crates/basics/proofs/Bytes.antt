@@ -1,12 +1,12 @@
 -- Laws of the byte strings of `specs/Bytes.antt`, in its order. Assumes nothing.
-use mathlib.Core.Path.{_≡_, refl, sym, ap, ap₂, _∙_}
+use mathlib.Core.Path.{_≡_, refl, sym, ap, ap₂, _∙_, subst}
 use mathlib.Core.List.{List, [], _∷_, _++_, append-nil, append-assoc}
-use Prim.Native.Nat.{ℕ, zero, suc, _+_, _*_, _/_, _%_, _^_, _<_, _≤_, min}
+use Prim.Native.Nat.{ℕ, zero, suc, _+_, _-_, _*_, _/_, _%_, _^_, _<_, _≤_, min}
 use native.Mathlib.Nat.{add-zero, add-suc, suc-add, zero-add, not-suc-le-zero, le-of-suc-le-suc, zero-lt-suc, mod-lt, pow-suc, mul-comm, div-div-eq-div-mul, div-one, div-add-mod', suc-mul, mul-zero, mul-le-mul-left, mul-le-mul-right, le-trans}
 use native.Mathlib.Decide.{decLt}
 use native.Mathlib.Omega.{arith}
-use lib.ListN.{length, getD, take, drop, length-take, length-drop, drop-of-length-le, List·getD-eq-default}
-use lib.Seq.{ext-getD, getD-take, getD-drop, take-all}
+use lib.ListN.{length, getD, take, drop, length-take, length-drop, drop-of-length-le, List·getD-append, List·getD-eq-default}
+use lib.Seq.{ext-getD, getD-take, getD-drop, getD-append-add, take-all}
 use lib.Arith.{digits-lt, digits-div, digits-mod, bin-ind}
 use lib.Bits.{bitXor, bitAnd, differ, xor-step, and-step, xor-shr, xor-mod, xor-zero-r, xor-self, xor-comm, xor-lt}
 use Rattle.basics.specs.Bytes.{from, build, pack, bit, bitAt, line, bitIn, lines, _⊕_, _⊙_, Bytes, over}
@@ -248,6 +248,15 @@ xor-strings-assoc a b c e =
     let k : p < length b = omega arith in
     getD-xor (a ⊕ b) c p g ∙ ap (λ (x : ℕ). bitXor x (getD c p 0)) (getD-xor a b p f) ∙ xor-assoc (getD a p 0) (getD b p 0) (getD c p 0)
     ∙ sym (getD-xor a (b ⊕ c) p f ∙ ap (bitXor (getD a p 0)) (getD-xor b c p k)))
+
+pub append-bytes : (a b : List ℕ) → Bytes a → Bytes b → Bytes (a ++ b)
+append-bytes a b ha hb p = side (decLt p (length a))
+  where
+    side : Dec (p < length a) → getD (a ++ b) p 0 < 256
+    side (yes h) = rw (List·getD-append a b 0 p h) (ha p)
+    side (no h) =
+        let split : length a + (p - length a) ≡ p = omega arith in
+        subst (λ (n : ℕ). getD (a ++ b) n 0 < 256) split (rw (getD-append-add a b (p - length a) 0) (hb (p - length a)))
 
 -- ---- a copy over the front
 
