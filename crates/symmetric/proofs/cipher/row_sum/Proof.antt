@@ -1,0 +1,13 @@
+-- `row_sum` adds word by word. Assumes nothing.
+use Rattle.basics.specs.Bytes.{from, build}
+use Rattle.symmetric.specs.Words.{sums}
+use borrow.Author.Needs.{needs}
+use Rattle.symmetric.proofs.cipher.row_sum.Statement.{statement}
+use Rattle.symmetric.proofs.cipher.row_sum.Tie as tie
+
+returns : tie.Need-returns
+unfolding sums build from
+returns c = cc
+
+pub row-sum-spec : {M : Type 1} → statement M
+row-sum-spec = tie.close (tie.spec (λ c κs. search needs) (λ c κs. search needs) (λ c κs. search needs) (λ c κs. search needs) returns)

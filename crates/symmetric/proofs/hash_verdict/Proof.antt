@@ -1,0 +1,12 @@
+-- `hash_verdict` is its definition: a chain of two checks. Assumes nothing.
+use Rattle.symmetric.specs.Calls.{hashVerdict}
+use borrow.Author.Needs.{needs}
+use Rattle.symmetric.proofs.hash_verdict.Statement.{statement}
+use Rattle.symmetric.proofs.hash_verdict.Tie as tie
+
+returns : tie.Need-returns
+unfolding hashVerdict
+returns c = cc
+
+pub hash-verdict-spec : {M : Type 1} → statement M
+hash-verdict-spec = tie.close (tie.spec (λ c κs. search needs) (λ c κs. search needs) returns)

@@ -1,0 +1,5 @@
+pub mod Words
+pub mod Sha
+pub mod ChaCha
+pub mod Values
+pub mod Calls
