@@ -1,0 +1,7 @@
+pub mod Extra
+pub mod Parity
+pub mod Words
+pub mod TwoWays
+pub mod Tested
+pub mod Entries
+pub mod TwoHalves
