@@ -1,0 +1,10 @@
+// Prints cases of the proved calls, one line each, a module for each subject. The file stdout holds what they must print,
+// from the documents and from programs that are not ours (tools/expected-vectors.py).
+mod show;
+mod symmetric_cases;
+mod words_cases;
+
+fn main() {
+    symmetric_cases::run();
+    words_cases::run();
+}
