@@ -1,0 +1,7 @@
+-- The laws of the definitions, and the theorems that `specs/` states.
+pub mod Extra
+pub mod Bytewise
+pub mod Rows
+pub mod Agreement
+pub mod Demands
+pub mod Marked
