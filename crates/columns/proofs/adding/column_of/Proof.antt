@@ -1,0 +1,29 @@
+-- `columns::adding::column_of` meets its contract: the bytes before the last hold rows alone, and the last loses its padding. Assumes nothing.
+use borrow.Author.Needs.{needs}
+use native.Mathlib.Omega.{arith}
+use mathlib.Core.Path.{_≡_, ap, sym, _∙_}
+use Prim.Native.Nat.{ℕ, _-_, _*_, _%_, _^_}
+use lib.ListN.{length, getD, set}
+use Rattle.columns.proofs.Sets.{column-in}
+use Rattle.columns.proofs.adding.column_of.Statement.{statement}
+use Rattle.columns.proofs.adding.column_of.Tie as tie
+
+returns : tie.Need-returns
+returns c =
+    let s = c .before .before .before .before .before .before in
+    column-in (s .args .m) (s .args .c) _ (s .args .seed .now) (s .args .session .now) _ (s .pre .0) (s .pre .1) (s .pre .2) (search needs)
+    (c .before .before .keystream .ensures) (c .low-bits .ensures)
+
+pub column-of-spec : {M : Type 1} → statement M
+column-of-spec =
+    tie.close
+    (tie.spec
+    (λ c. search needs)
+    (λ c κs. search needs)
+    (λ c. search needs)
+    (λ c. search needs)
+    (λ c. search needs)
+    (λ c. search needs)
+    (λ c κs. search needs)
+    (λ c. search needs)
+    returns)

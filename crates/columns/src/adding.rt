@@ -1,0 +1,135 @@
+// The columns of a lent set, added to a block by xor: handed in as they are, or worked out from seeds.
+ghost use mathlib.Core.Path.{_≡_};
+ghost use mathlib.Core.List.{_++_};
+ghost use Prim.Native.Nat.{ℕ, _+_, _-_, _*_, _%_, _^_, _<_, _≤_};
+ghost use lib.ListN.{length, getD, take};
+ghost use Rattle.basics.specs.Choice.{pick};
+ghost use Rattle.basics.specs.Bytes.{_⊕_};
+ghost use Rattle.basics.specs.Padding.{colBytes};
+ghost use Rattle.symmetric.specs.ChaCha.{chacha20};
+ghost use Rattle.columns.specs.Sets.{seedColumn, expanded, columnsOf, setFit};
+use basics::wide;
+
+// A seed's bytes.
+const SEED: usize = 32;
+
+// Xors src into out, which is no longer.
+fn xor_into(src: &[u8], out: &mut [u8])
+    requires { ⌜ length (now out) ≤ length (now src) ⌝ }
+    ensures { λ _. ⌜ now (out .exit) ≡ now (out .entry) ⊕ now (src .entry) ⌝ }
+{
+    let mut p = 0;
+    while p < out.len() {
+        out[p] = out[p] ^ src[p];
+        p += 1;
+    }
+}
+
+// The first c bytes of a seed's keystream, into a workspace of 128 bytes. The second block is worked out only where c reaches it.
+fn keystream(c: usize, session: &[u8], seed: &[u8], work: &mut [u8])
+    requires { ⌜ (length (now session) ≡ 12) × (length (now seed) ≡ 32) × (length (now work) ≡ 128) × (c ≤ 128) ⌝ }
+    ensures { λ _. ⌜ take c (now (work .exit)) ≡ take c (chacha20 (now (seed .entry)) (now (session .entry)) 0 ++ chacha20 (now (seed .entry)) (now (session .entry)) 1) ⌝ }
+{
+    symmetric::block(seed, session, 0, &mut work[0..64]);
+    if 64 < c {
+        symmetric::block(seed, session, 1, &mut work[64..128]);
+    }
+}
+
+// 2 to the power u.
+fn power(u: usize) -> u32
+    requires { ⌜ u ≤ 8 ⌝ }
+    ensures { λ r. ⌜ r ≡ 2 ^ u ⌝ }
+{
+    1 << u
+}
+
+// The lowest u bits of a byte.
+fn low_bits(x: u8, u: usize) -> u8
+    requires { ⌜ u ≤ 8 ⌝ }
+    ensures { λ r. ⌜ r ≡ x % 2 ^ u ⌝ }
+{
+    (wide(x) % power(u)) as u8
+}
+
+// The column of a seed, in the front of a workspace: the keystream cut to c bytes, with the padding cleared.
+fn column_of(m: usize, c: usize, session: &[u8], seed: &[u8]) -> [u8; 128]
+    requires { ⌜ (0 < m) × (m ≤ 1024) × (c ≡ colBytes m) × (length (now session) ≡ 12) × (length (now seed) ≡ 32) ⌝ }
+    ensures { λ r. ⌜ ((p : ℕ) → p < c → getD r p 0 ≡ getD (seedColumn (now (session .entry)) m (now (seed .entry))) p 0) ⌝ }
+{
+    let mut work = [0u8; 128];
+    keystream(c, session, seed, &mut work);
+    let last = c - 1;
+    work[last] = low_bits(work[last], m - last * 8);
+    work
+}
+
+// Xors the column of a seed into a part of c bytes.
+fn add_column(m: usize, c: usize, session: &[u8], seed: &[u8], out: &mut [u8])
+    requires { ⌜ (0 < m) × (m ≤ 1024) × (c ≡ colBytes m) × (length (now session) ≡ 12) × (length (now seed) ≡ 32) × (length (now out) ≡ c) ⌝ }
+    ensures { λ _. ⌜ now (out .exit) ≡ now (out .entry) ⊕ seedColumn (now (session .entry)) m (now (seed .entry)) ⌝ }
+{
+    let work = column_of(m, c, session, seed);
+    xor_into(&work, out);
+}
+
+// Xors the columns of `count` seeds into a block, one column after the other.
+fn add_expanded(count: usize, m: usize, c: usize, session: &[u8], seeds: &[u8], block: &mut [u8])
+    requires { ⌜ (0 < m) × (m ≤ 1024) × (c ≡ colBytes m) × (length (now session) ≡ 12) × (length (now seeds) ≡ count * 32) × (length (now block) ≡ count * c) × (count < 65536) ⌝ }
+    ensures { λ _. ⌜ now (block .exit) ≡ now (block .entry) ⊕ expanded count m (now (session .entry)) (now (seeds .entry)) ⌝ }
+{
+    let mut i = 0;
+    let mut a = 0;
+    while i < count {
+        let e = a + c;
+        let at = i * SEED;
+        let end = at + SEED;
+        add_column(m, c, session, &seeds[at..end], &mut block[a..e]);
+        a = e;
+        i += 1;
+    }
+}
+
+// The bytes that stand for one column of c bytes in a lent set.
+fn entry_bytes(seeded: bool, c: usize) -> usize
+    requires { ⌜ c ≤ 128 ⌝ }
+    ensures { λ r. ⌜ (r ≡ pick seeded 32 c) × (r ≤ 128) ⌝ }
+{
+    if seeded { SEED } else { c }
+}
+
+// A session of 12 bytes, a set of `count` entries, and a block of as many columns of 1 to 1,024 rows.
+fn set_fit(seeded: bool, count: usize, m: usize, session: usize, set: usize, block: usize) -> bool
+    requires { ⌜ (count < 65536) × (m < 65536) ⌝ }
+    ensures { λ r. ⌜ r ≡ setFit seeded count m session set block ⌝ }
+{
+    if m < 1 {
+        return false;
+    }
+    if 1024 < m {
+        return false;
+    }
+    if session != 12 {
+        return false;
+    }
+    let c = (m + 7) / 8;
+    if set != count * entry_bytes(seeded, c) {
+        return false;
+    }
+    block == count * c
+}
+
+// Xors the columns of a lent set into a block; nothing where the lengths do not fit.
+pub fn add_set(seeded: bool, count: u16, rows: u16, session: &[u8], set: &[u8], block: &mut [u8])
+    ensures { λ _. ⌜ now (block .exit) ≡ pick (setFit seeded count rows (length (now (session .entry))) (length (now (set .entry))) (length (now (block .entry)))) (now (block .entry) ⊕ columnsOf seeded count rows (now (session .entry)) (now (set .entry))) (now (block .entry)) ⌝ }
+{
+    let k = count as usize;
+    let m = rows as usize;
+    if set_fit(seeded, k, m, session.len(), set.len(), block.len()) {
+        if seeded {
+            add_expanded(k, m, (m + 7) / 8, session, set, block);
+        } else {
+            xor_into(set, block);
+        }
+    }
+}

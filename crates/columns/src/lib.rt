@@ -1,0 +1,8 @@
+// Sets of columns: worked out from seeds, and turned into rows.
+mod adding;
+mod rows;
+
+pub use adding::add_set;
+pub use rows::gather_eight;
+pub use rows::gather_rows;
+pub use rows::row_bytes;

@@ -1,0 +1,110 @@
+// A set of columns turned into rows, eight columns at a time: eight columns give one byte to each row.
+ghost use mathlib.Core.Path.{_≡_};
+ghost use Prim.Native.Nat.{ℕ, _+_, _*_, _/_, _<_, _≤_};
+ghost use lib.ListN.{length};
+ghost use Rattle.basics.specs.Choice.{pick};
+ghost use Rattle.basics.specs.Bytes.{bitIn, lines};
+ghost use Rattle.basics.specs.Padding.{colBytes};
+ghost use Rattle.words.specs.Code.{codeOf};
+ghost use Rattle.construction.specs.Transfer.{rows as rowsOf};
+ghost use Rattle.columns.specs.Gathered.{gathered, gatheredEight, eightFit, rowsFit, RowBytes};
+
+// Bit j of eight columns of c bytes, the first column's lowest.
+fn gathered_byte(c: usize, eight: &[u8], j: usize) -> u8
+    requires { ⌜ (length (now eight) ≡ 8 * c) × (j / 8 < c) × (c < 65536) ⌝ }
+    ensures { λ r. ⌜ r ≡ gathered c (now (eight .entry)) j ⌝ }
+{
+    let byte = j / 8;
+    let shift = j % 8;
+    let mut acc: u8 = 0;
+    let mut e: usize = 8;
+    while 0 < e {
+        e -= 1;
+        acc = acc * 2 + (eight[e * c + byte] >> shift) % 2;
+    }
+    acc
+}
+
+// Gives each of m rows its byte g.
+fn give_bytes(m: usize, c: usize, width: usize, g: usize, eight: &[u8], out: &mut [u8])
+    requires { ⌜ (c ≡ colBytes m) × (m < 65536) × (length (now eight) ≡ 8 * c) × (length (now out) ≡ m * width) × (g < width) × (width < 65536) ⌝ }
+    ensures { λ _. ⌜ now (out .exit) ≡ gatheredEight m width g (now (eight .entry)) (now (out .entry)) ⌝ }
+{
+    let mut j = 0;
+    let mut at = g;
+    while j < m {
+        out[at] = gathered_byte(c, eight, j);
+        at += width;
+        j += 1;
+    }
+}
+
+// Eight columns of m rows, and m rows of more than g bytes.
+fn eight_fit(m: usize, width: usize, g: usize, eight: usize, out: usize) -> bool
+    requires { ⌜ (m < 65536) × (width < 65536) ⌝ }
+    ensures { λ r. ⌜ r ≡ eightFit m width g eight out ⌝ }
+{
+    if eight != 8 * ((m + 7) / 8) {
+        return false;
+    }
+    if out != m * width {
+        return false;
+    }
+    g < width
+}
+
+// Gives each row its byte g from eight columns; nothing where the lengths do not fit.
+pub fn gather_eight(rows: u16, width: u8, g: usize, eight: &[u8], out: &mut [u8])
+    ensures { λ _. ⌜ now (out .exit) ≡ pick (eightFit rows width g (length (now (eight .entry))) (length (now (out .entry)))) (gatheredEight rows width g (now (eight .entry)) (now (out .entry))) (now (out .entry)) ⌝ }
+{
+    let m = rows as usize;
+    let w = width as usize;
+    if eight_fit(m, w, g, eight.len(), out.len()) {
+        give_bytes(m, (m + 7) / 8, w, g, eight, out);
+    }
+}
+
+// The bytes of a row, which are those of a code word.
+pub fn row_bytes(mode: u8) -> usize
+    ensures { λ r. ⌜ RowBytes mode r ⌝ }
+{
+    if mode == 2 { 32 } else { 16 }
+}
+
+// Gives each of m rows its bytes in turn, eight columns for each.
+fn give_rows(rows: u16, width: u8, columns: &[u8], out: &mut [u8])
+    requires { ⌜ (length (now columns) ≡ width * (8 * colBytes rows)) × (length (now out) ≡ rows * width) ⌝ }
+    ensures { λ _. ⌜ now (out .exit) ≡ lines rows width (λ j i. bitIn (colBytes rows) (now (columns .entry)) i j) ⌝ }
+{
+    let w = width as usize;
+    let eight = 8 * ((rows as usize + 7) / 8);
+    let mut g = 0;
+    let mut a = 0;
+    while g < w {
+        let e = a + eight;
+        gather_eight(rows, width, g, &columns[a..e], out);
+        a = e;
+        g += 1;
+    }
+}
+
+// A whole set of columns, and the rows that it fills.
+fn rows_fit(m: usize, width: usize, columns: usize, out: usize) -> bool
+    requires { ⌜ (m < 65536) × (width ≤ 32) ⌝ }
+    ensures { λ r. ⌜ r ≡ rowsFit width m columns out ⌝ }
+{
+    if columns != width * 8 * ((m + 7) / 8) {
+        return false;
+    }
+    out == m * width
+}
+
+// A set of columns turned into rows; nothing where the lengths do not fit.
+pub fn gather_rows(mode: u8, rows: u16, columns: &[u8], out: &mut [u8])
+    ensures { λ _. ⌜ now (out .exit) ≡ pick (rowsFit (codeOf mode .width) rows (length (now (columns .entry))) (length (now (out .entry)))) (rowsOf (codeOf mode) rows (now (columns .entry))) (now (out .entry)) ⌝ }
+{
+    let width = row_bytes(mode);
+    if rows_fit(rows as usize, width, columns.len(), out.len()) {
+        give_rows(rows, width as u8, columns, out);
+    }
+}
