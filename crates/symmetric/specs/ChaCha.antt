@@ -3,7 +3,7 @@ use Prim.Native.Nat.{ℕ, zero, suc, _+_, _-_, _*_, _/_, _%_, _^_}
 use mathlib.Core.List.{List, [], _∷_}
 use lib.ListN.{getD, set}
 use lib.Bits.{bitOr, bitXor}
-use Rattle.symmetric.specs.Words.{add, sums}
+use Rattle.symmetric.specs.Words.{add, sums, littleEndian, serial}
 
 -- section 2.1: rotation by n bits towards the high end
 unfoldable pub rotl : ℕ → ℕ → ℕ
@@ -40,13 +40,9 @@ unfoldable pub doubleRounds : List ℕ → ℕ → List ℕ
 doubleRounds s zero = s
 doubleRounds s (suc n) = innerBlock (doubleRounds s n)
 
--- a word from four bytes, the least significant first, and words as bytes
+-- a word from four bytes, the least significant first
 abbrev pub le32At : List ℕ → ℕ → ℕ
 le32At s i = getD s i 0 + getD s (i + 1) 0 * 256 + getD s (i + 2) 0 * 65536 + getD s (i + 3) 0 * 16777216
-
-unfoldable pub littleEndian : List ℕ → List ℕ
-littleEndian [] = []
-littleEndian (x ∷ xs) = x % 256 ∷ x / 2 ^ 8 % 256 ∷ x / 2 ^ 16 % 256 ∷ x / 2 ^ 24 % 256 ∷ littleEndian xs
 
 -- the sixteen words at the start: constants, key, block counter, nonce
 unfoldable pub start : List ℕ → List ℕ → ℕ → List ℕ
@@ -58,4 +54,4 @@ start key nonce counter =
 
 -- the words at the start are added to the state at the end, and the sums written out
 unfoldable pub chacha20 : List ℕ → List ℕ → ℕ → List ℕ
-chacha20 key nonce counter = littleEndian (sums 16 (doubleRounds (start key nonce counter) 10) (start key nonce counter))
+chacha20 key nonce counter = serial littleEndian (sums 16 (doubleRounds (start key nonce counter) 10) (start key nonce counter))

@@ -1,16 +1,16 @@
 // RFC 8439, sections 2.1 to 2.3: the ChaCha20 block. The state is sixteen words by value, in four rows.
 ghost use mathlib.Core.Path.{_≡_};
 ghost use mathlib.Core.List.{[], _∷_};
-ghost use Prim.Native.Nat.{_+_, _-_, _*_, _/_, _%_, _^_, _≤_, _<_};
-ghost use lib.ListN.{length, getD};
-ghost use lib.Bits.{bitOr, bitXor};
+ghost use Prim.Native.Nat.{_+_, _≤_, _<_};
+ghost use lib.ListN.{length};
 ghost use Rattle.symmetric.specs.Words.{sums};
-ghost use Rattle.symmetric.specs.ChaCha.{rotl, quarter, columnRound, diagonalRound, innerBlock, doubleRounds, le32At, littleEndian, start, chacha20};
+ghost use Rattle.symmetric.specs.ChaCha.{rotl, quarter, columnRound, diagonalRound, innerBlock, doubleRounds, le32At, start, chacha20};
 ghost use Rattle.symmetric.specs.Values.{row, cells};
-use basics::copy;
+use crate::order::put_little;
 use basics::wide;
 use std::num::wrapping_add_u32;
 
+// A row of the state, and the four words of a quarter round.
 pub(crate) struct Row {
     a: u32,
     b: u32,
@@ -18,6 +18,7 @@ pub(crate) struct Row {
     d: u32,
 }
 
+// Section 2.3: the state, a matrix of four rows.
 pub(crate) struct Grid {
     a: Row,
     b: Row,
@@ -153,15 +154,11 @@ fn row_at(b: &[u8], i: usize) -> Row
     requires { ⌜ i + 16 ≤ length (now b) ⌝ }
     ensures { λ r. ⌜ row r ≡ le32At (now (b .entry)) i ∷ le32At (now (b .entry)) (i + 4) ∷ le32At (now (b .entry)) (i + 8) ∷ le32At (now (b .entry)) (i + 12) ∷ [] ⌝ }
 {
-    let a = word_at(b, i);
-    let c = word_at(b, i + 4);
-    let d = word_at(b, i + 8);
-    let e = word_at(b, i + 12);
     Row {
-        a: a,
-        b: c,
-        c: d,
-        d: e,
+        a: word_at(b, i),
+        b: word_at(b, i + 4),
+        c: word_at(b, i + 8),
+        d: word_at(b, i + 12),
     }
 }
 
@@ -172,9 +169,9 @@ fn started(key: &[u8], nonce: &[u8], counter: u32) -> Grid
 {
     let low = row_at(key, 0);
     let high = row_at(key, 16);
-    let n = word_at(nonce, 0);
-    let o = word_at(nonce, 4);
-    let p = word_at(nonce, 8);
+    let first = word_at(nonce, 0);
+    let second = word_at(nonce, 4);
+    let third = word_at(nonce, 8);
     Grid {
         a: Row {
             a: 0x6170_7865,
@@ -186,9 +183,9 @@ fn started(key: &[u8], nonce: &[u8], counter: u32) -> Grid
         c: high,
         d: Row {
             a: counter,
-            b: n,
-            c: o,
-            d: p,
+            b: first,
+            c: second,
+            d: third,
         },
     }
 }
@@ -214,53 +211,36 @@ fn grid_sum(s: Grid, v: Grid) -> Grid
     Grid { a, b, c, d }
 }
 
-// Four words as bytes, the least significant first.
-fn row_bytes(s: Row) -> [u8; 16]
-    ensures { λ r. ⌜ r ≡ littleEndian (row s) ⌝ }
+fn listed(s: Grid) -> [u32; 16]
+    ensures { λ r. ⌜ r ≡ cells s ⌝ }
 {
     [
-        (s.a % 256) as u8,
-        (s.a / 256 % 256) as u8,
-        (s.a / 65536 % 256) as u8,
-        (s.a / 16777216 % 256) as u8,
-        (s.b % 256) as u8,
-        (s.b / 256 % 256) as u8,
-        (s.b / 65536 % 256) as u8,
-        (s.b / 16777216 % 256) as u8,
-        (s.c % 256) as u8,
-        (s.c / 256 % 256) as u8,
-        (s.c / 65536 % 256) as u8,
-        (s.c / 16777216 % 256) as u8,
-        (s.d % 256) as u8,
-        (s.d / 256 % 256) as u8,
-        (s.d / 65536 % 256) as u8,
-        (s.d / 16777216 % 256) as u8,
+        s.a.a,
+        s.a.b,
+        s.a.c,
+        s.a.d,
+        s.b.a,
+        s.b.b,
+        s.b.c,
+        s.b.d,
+        s.c.a,
+        s.c.b,
+        s.c.c,
+        s.c.d,
+        s.d.a,
+        s.d.b,
+        s.d.c,
+        s.d.d,
     ]
 }
 
-fn put_row(s: Row, out: &mut [u8])
-    requires { ⌜ length (now out) ≡ 16 ⌝ }
-    ensures { λ _. ⌜ now (out .exit) ≡ littleEndian (row s) ⌝ }
-{
-    let b = row_bytes(s);
-    copy(&b, out);
-}
-
-fn put_grid(s: Grid, out: &mut [u8])
-    requires { ⌜ length (now out) ≡ 64 ⌝ }
-    ensures { λ _. ⌜ now (out .exit) ≡ littleEndian (cells s) ⌝ }
-{
-    put_row(s.a, &mut out[0..16]);
-    put_row(s.b, &mut out[16..32]);
-    put_row(s.c, &mut out[32..48]);
-    put_row(s.d, &mut out[48..64]);
-}
-
-pub(crate) fn write_block(key: &[u8], nonce: &[u8], counter: u32, out: &mut [u8])
+pub(crate) fn put_block(key: &[u8], nonce: &[u8], counter: u32, out: &mut [u8])
     requires { ⌜ (length (now key) ≡ 32) × (length (now nonce) ≡ 12) × (length (now out) ≡ 64) ⌝ }
     ensures { λ _. ⌜ now (out .exit) ≡ chacha20 (now (key .entry)) (now (nonce .entry)) counter ⌝ }
 {
     let s = started(key, nonce, counter);
     let v = twenty_rounds(s);
-    put_grid(grid_sum(v, s), out);
+    let sum = grid_sum(v, s);
+    let w = listed(sum);
+    put_little(&w, out);
 }

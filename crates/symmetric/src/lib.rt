@@ -9,11 +9,11 @@ ghost use Rattle.symmetric.specs.Calls.{hashVerdict, blockVerdict};
 mod cipher;
 mod constants;
 mod message;
+mod order;
 mod rounds;
 mod schedule;
 
 use basics::Verdict;
-use basics::copy;
 use basics::refuse_unless;
 
 // The longest input of the hash.
@@ -34,8 +34,7 @@ pub fn hash(input: &[u8], digest: &mut [u8]) -> Verdict
     if v.code != 0 {
         return v;
     }
-    let d = message::digest_of(input);
-    copy(&d, digest);
+    message::put_digest(input, digest);
     v
 }
 
@@ -51,10 +50,10 @@ fn block_verdict(key: usize, nonce: usize, out: usize) -> Verdict
 pub fn block(key: &[u8], nonce: &[u8], counter: u32, out: &mut [u8]) -> Verdict
     ensures { λ r. ⌜ Gives (blockVerdict (length (now (key .entry))) (length (now (nonce .entry))) (length (now (out .entry)))) (chacha20 (now (key .entry)) (now (nonce .entry)) counter) (now (out .entry)) r (now (out .exit)) ⌝ }
 {
-    let v = block_verdict(key.len(), nonce.len(), out.len());
-    if v.code != 0 {
-        return v;
+    let w = block_verdict(key.len(), nonce.len(), out.len());
+    if w.code != 0 {
+        return w;
     }
-    cipher::write_block(key, nonce, counter, out);
-    v
+    cipher::put_block(key, nonce, counter, out);
+    w
 }

@@ -1,12 +1,14 @@
 // FIPS 180-4, section 6.2.2, steps 2 to 4: the rounds over a schedule, and their sum with the hash value.
 ghost use mathlib.Core.Path.{_≡_};
-ghost use Prim.Native.Nat.{_+_, _-_, _*_, _/_, _%_, _^_, _≤_, _<_};
+ghost use mathlib.Core.List.{List};
+ghost use Prim.Native.Nat.{ℕ, _+_, _≤_, _<_};
 ghost use lib.ListN.{length, getD};
 ghost use Rattle.symmetric.specs.Words.{sums};
-ghost use Rattle.symmetric.specs.Sha.{ch, maj, bigSigma0, bigSigma1, roundConstants, initial, temp1, temp2, round, rounds, compress};
-ghost use Rattle.symmetric.specs.Values.{words};
+ghost use Rattle.symmetric.specs.Sha.{ch, maj, bigSigma0, bigSigma1, roundConstants, initial, schedule, temp1, temp2, round, rounds, compress};
+ghost use Rattle.symmetric.specs.Values.{Scheduled, words};
 use crate::constants::K;
-use crate::schedule::expand;
+use crate::schedule::extend;
+use crate::schedule::load;
 use std::num::wrapping_add_u32;
 
 // The eight working variables, and the eight words of the hash value.
@@ -79,15 +81,36 @@ fn step(s: State, k: &[u32; 64], w: &[u32; 64], t: usize) -> State
     }
 }
 
-fn stir(s: State, w: &[u32; 64]) -> State
-    ensures { λ r. ⌜ words r ≡ rounds (now (w .entry)) (words s) 64 ⌝ }
+// Eight rounds from round t on, over a schedule that reaches as far: written out, so that the variables change their names and not their places.
+fn turn(s: State, k: &[u32; 64], w: &[u32; 64], t: usize) -> State
+    requires { ⌜ (now k ≡ roundConstants) × (t + 8 ≤ 64) ⌝ }
+    ensures { λ r. ⌜ ((bs h : List ℕ) (n : ℕ) → Scheduled bs n (now (w .entry)) → t + 8 ≤ n → n ≤ 64 → words s ≡ rounds (schedule bs 64) h t → words r ≡ rounds (schedule bs 64) h (t + 8)) ⌝ }
+{
+    let s1 = step(s, k, w, t);
+    let s2 = step(s1, k, w, t + 1);
+    let s3 = step(s2, k, w, t + 2);
+    let s4 = step(s3, k, w, t + 3);
+    let s5 = step(s4, k, w, t + 4);
+    let s6 = step(s5, k, w, t + 5);
+    let s7 = step(s6, k, w, t + 6);
+    step(s7, k, w, t + 7)
+}
+
+// The 64 rounds. The schedule is made two turns ahead of them, so that the processor works at both.
+fn stir(s: State, block: &[u8]) -> State
+    requires { ⌜ length (now block) ≡ 64 ⌝ }
+    ensures { λ r. ⌜ words r ≡ rounds (schedule (now (block .entry)) 64) (words s) 64 ⌝ }
 {
     let k = K;
+    let mut w = load(block);
     let mut v = s;
     let mut t: usize = 0;
     while t < 64 {
-        v = step(v, &k, w, t);
-        t += 1;
+        if t < 48 {
+            extend(&mut w, t + 16);
+        }
+        v = turn(v, &k, &w, t);
+        t += 8;
     }
     v
 }
@@ -111,8 +134,7 @@ pub(crate) fn compressed(s: State, block: &[u8]) -> State
     requires { ⌜ length (now block) ≡ 64 ⌝ }
     ensures { λ r. ⌜ words r ≡ compress (words s) (now (block .entry)) ⌝ }
 {
-    let w = expand(block);
-    let v = stir(s, &w);
+    let v = stir(s, block);
     added(s, v)
 }
 

@@ -1,9 +1,11 @@
 // FIPS 180-4, section 6.2.2, step 1: the 64 words that a block is made into.
 ghost use mathlib.Core.Path.{_≡_};
-ghost use Prim.Native.Nat.{_+_, _-_, _*_, _/_, _%_, _^_, _≤_, _<_};
-ghost use lib.ListN.{length, getD, take};
+ghost use mathlib.Core.List.{List};
+ghost use Prim.Native.Nat.{ℕ, _+_, _≤_, _<_};
+ghost use lib.ListN.{length};
 ghost use Rattle.basics.specs.Bytes.{be32At};
-ghost use Rattle.symmetric.specs.Sha.{smallSigma0, smallSigma1, expanded, schedule};
+ghost use Rattle.symmetric.specs.Sha.{smallSigma0, smallSigma1, expanded};
+ghost use Rattle.symmetric.specs.Values.{Scheduled};
 use basics::wide;
 use std::num::wrapping_add_u32;
 
@@ -39,9 +41,9 @@ fn expanded_word(w: &[u32; 64], t: usize) -> u32
 }
 
 // The first 16 words are the block's.
-fn load(block: &[u8]) -> [u32; 64]
+pub(crate) fn load(block: &[u8]) -> [u32; 64]
     requires { ⌜ length (now block) ≡ 64 ⌝ }
-    ensures { λ r. ⌜ take 16 r ≡ schedule (now (block .entry)) 16 ⌝ }
+    ensures { λ r. ⌜ Scheduled (now (block .entry)) 16 r ⌝ }
 {
     let mut w = [0u32; 64];
     let mut t: usize = 0;
@@ -52,16 +54,17 @@ fn load(block: &[u8]) -> [u32; 64]
     w
 }
 
-// The other 48 are made of those before them.
-pub(crate) fn expand(block: &[u8]) -> [u32; 64]
-    requires { ⌜ length (now block) ≡ 64 ⌝ }
-    ensures { λ r. ⌜ r ≡ schedule (now (block .entry)) 64 ⌝ }
+// Words t to t + 7, written out, so that those just made need not be read back.
+pub(crate) fn extend(w: &mut [u32; 64], t: usize)
+    requires { ⌜ (16 ≤ t) × (t + 8 ≤ 64) ⌝ }
+    ensures { λ _. ⌜ ((bs : List ℕ) → Scheduled bs t (now (w .entry)) → Scheduled bs (t + 8) (now (w .exit))) ⌝ }
 {
-    let mut w = load(block);
-    let mut t: usize = 16;
-    while t < 64 {
-        w[t] = expanded_word(&w, t);
-        t += 1;
-    }
-    w
+    w[t] = expanded_word(w, t);
+    w[t + 1] = expanded_word(w, t + 1);
+    w[t + 2] = expanded_word(w, t + 2);
+    w[t + 3] = expanded_word(w, t + 3);
+    w[t + 4] = expanded_word(w, t + 4);
+    w[t + 5] = expanded_word(w, t + 5);
+    w[t + 6] = expanded_word(w, t + 6);
+    w[t + 7] = expanded_word(w, t + 7);
 }

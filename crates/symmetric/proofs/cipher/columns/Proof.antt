@@ -1,5 +1,4 @@
 -- `columns`: four quarter rounds on words that no two of them share. Assumes nothing.
-use mathlib.Core.Path.{refl}
 use Rattle.symmetric.specs.ChaCha.{columnRound}
 use borrow.Author.Needs.{needs}
 use Rattle.symmetric.proofs.cipher.columns.Statement.{statement}
@@ -10,4 +9,6 @@ unfolding columnRound
 returns c = rw (← c .before .before .before .quarter-round .ensures, ← c .before .before .quarter-round2 .ensures, ← c .before .quarter-round3 .ensures, ← c .quarter-round4 .ensures)
 
 pub columns-spec : {M : Type 1} → statement M
-columns-spec = tie.close (tie.spec (λ c κs. search needs) (λ c κs. search needs) (λ c κs. search needs) (λ c κs. search needs) returns)
+columns-spec =
+    tie.close
+    (tie.spec (λ c κs. search needs) (λ c κs. search needs) (λ c κs. search needs) (λ c κs. search needs) returns)

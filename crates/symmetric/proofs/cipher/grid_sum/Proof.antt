@@ -1,5 +1,5 @@
 -- `grid_sum` adds sixteen words, a row at a time. Assumes nothing.
-use mathlib.Core.Path.{refl, ap₂, _∙_}
+use mathlib.Core.Path.{ap₂}
 use mathlib.Core.List.{_++_}
 use Rattle.basics.specs.Bytes.{from, build}
 use Rattle.symmetric.specs.Words.{sums}
@@ -12,4 +12,6 @@ unfolding sums build from
 returns c = ap₂ _++_ (ap₂ _++_ (ap₂ _++_ (c .before .before .before .row-sum .ensures) (c .before .before .row-sum2 .ensures)) (c .before .row-sum3 .ensures)) (c .row-sum4 .ensures)
 
 pub grid-sum-spec : {M : Type 1} → statement M
-grid-sum-spec = tie.close (tie.spec (λ c κs. search needs) (λ c κs. search needs) (λ c κs. search needs) (λ c κs. search needs) returns)
+grid-sum-spec =
+    tie.close
+    (tie.spec (λ c κs. search needs) (λ c κs. search needs) (λ c κs. search needs) (λ c κs. search needs) returns)

@@ -29,4 +29,6 @@ returns c = let l = c .before .loop in
     rw e at (l .inv .1)
 
 pub twenty-rounds-spec : {M : Type 1} → statement M
-twenty-rounds-spec = tie.close (tie.spec Inv-loop μ-loop loop-holds (λ c κs. search needs) (λ c. search needs) (λ c. search needs) loop-again returns)
+twenty-rounds-spec =
+    tie.close
+    (tie.spec Inv-loop μ-loop loop-holds (λ c κs. search needs) (λ c. search needs) (λ c. search needs) loop-again returns)

@@ -35,4 +35,7 @@ returns c = let l = c .before .loop in
     rw e at (l .inv .2)
 
 pub whole-spec : {M : Type 1} → statement M
-whole-spec = tie.close (tie.spec Inv-loop μ-loop (λ c κs. search needs) loop-holds (λ c. search needs) (λ c. search needs) (λ c. search needs) (λ c. search needs) (λ c. search needs) compressed-requires (λ c. search needs) (λ c. search needs) loop-again returns)
+whole-spec =
+    tie.close
+    (tie.spec Inv-loop μ-loop (λ c κs. search needs) loop-holds (λ c. search needs) (λ c. search needs) (λ c. search needs)
+    (λ c. search needs) (λ c. search needs) compressed-requires (λ c. search needs) (λ c. search needs) loop-again returns)

@@ -1,7 +1,7 @@
 -- `added` is the sum word by word: each of the eight words is one call's result. Assumes nothing.
 use Rattle.basics.specs.Bytes.{from, build}
 use Rattle.symmetric.specs.Words.{sums}
-use Rattle.symmetric.proofs.Sha.{eight}
+use Rattle.symmetric.proofs.Words.{eight}
 use borrow.Author.Needs.{needs}
 use Rattle.symmetric.proofs.rounds.added.Statement.{statement}
 use Rattle.symmetric.proofs.rounds.added.Tie as tie
@@ -15,4 +15,7 @@ returns c = let c7 = c .before in let c6 = c7 .before in let c5 = c6 .before in 
     (c7 .wrapping-add-u327 .ensures) (c .wrapping-add-u328 .ensures)
 
 pub added-spec : {M : Type 1} → statement M
-added-spec = tie.close (tie.spec (λ c κs. search needs) (λ c κs. search needs) (λ c κs. search needs) (λ c κs. search needs) (λ c κs. search needs) (λ c κs. search needs) (λ c κs. search needs) (λ c κs. search needs) returns)
+added-spec =
+    tie.close
+    (tie.spec (λ c κs. search needs) (λ c κs. search needs) (λ c κs. search needs) (λ c κs. search needs) (λ c κs. search needs)
+    (λ c κs. search needs) (λ c κs. search needs) (λ c κs. search needs) returns)

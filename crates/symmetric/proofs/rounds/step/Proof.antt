@@ -1,12 +1,12 @@
 -- `step` is one round: two new words from T1 and T2, the other six moved on. Assumes nothing.
-use mathlib.Core.Path.{_≡_, refl, ap, ap₂, _∙_}
+use mathlib.Core.Path.{refl, ap, ap₂, _∙_}
 use mathlib.Core.List.{List}
 use Prim.Native.Nat.{ℕ}
 use lib.ListN.{getD}
 use Rattle.symmetric.specs.Words.{add}
-use Rattle.symmetric.specs.Sha.{roundConstants, temp1, round}
+use Rattle.symmetric.specs.Sha.{temp1, round}
 use Rattle.symmetric.specs.Values.{words}
-use Rattle.symmetric.proofs.Sha.{eight}
+use Rattle.symmetric.proofs.Words.{eight}
 use borrow.Author.Needs.{needs}
 use Rattle.symmetric.proofs.rounds.step.Statement.{statement}
 use Rattle.symmetric.proofs.rounds.step.Tie as tie
@@ -21,4 +21,7 @@ returns c = let a = c .before .before .before .before .before .before .args in
     (c .wrapping-add-u322 .ensures ∙ ap (add _) t1) refl refl refl
 
 pub step-spec : {M : Type 1} → statement M
-step-spec = tie.close (tie.spec (λ c. search needs) (λ c. search needs) (λ c. search needs) (λ c. search needs) (λ c κs. search needs) (λ c κs. search needs) (λ c κs. search needs) (λ c κs. search needs) returns)
+step-spec =
+    tie.close
+    (tie.spec (λ c. search needs) (λ c. search needs) (λ c. search needs) (λ c. search needs) (λ c κs. search needs)
+    (λ c κs. search needs) (λ c κs. search needs) (λ c κs. search needs) returns)
