@@ -1,0 +1,5 @@
+pub mod Extra
+pub mod Shapes
+pub mod Message
+pub mod Received
+pub mod Unique
