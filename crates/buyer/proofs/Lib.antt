@@ -1,0 +1,5 @@
+pub mod Sizes
+pub mod Chosen
+pub mod Judged
+pub mod Prepared
+pub mod Opened

@@ -1,0 +1,25 @@
+-- k by a shape's mode is the places of the mode's code, and both are a power of two. Assumes nothing.
+use mathlib.Core.Path.{_≡_, refl, sym, ap, _∙_}
+use mathlib.Core.Bool.{Bool, true, false}
+use Prim.Native.Nat.{ℕ, _+_, _*_, _/_, _^_, _≤_}
+use lib.Dec.{eqb}
+use Rattle.basics.specs.Choice.{pick}
+use Rattle.words.specs.Code.{Code, k, pairs, choices, codeOf}
+use Rattle.wire.specs.Shapes.{kOf}
+
+pub k-of : (mode : ℕ) → kOf mode ≡ k (codeOf mode)
+unfolding kOf codeOf
+k-of mode = cases (eqb mode 2)
+  where
+    cases : (t : Bool) → pick t 256 128 ≡ k (pick t choices pairs)
+    cases true = refl
+    cases false = refl
+
+-- the bytes of a row
+pub row-of : (mode : ℕ) → kOf mode / 8 ≡ codeOf mode .width
+unfolding kOf codeOf
+row-of mode = cases (eqb mode 2)
+  where
+    cases : (t : Bool) → pick t 256 128 / 8 ≡ pick t choices pairs .width
+    cases true = refl
+    cases false = refl

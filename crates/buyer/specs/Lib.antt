@@ -1,0 +1,4 @@
+pub mod Selections
+pub mod Chosen
+pub mod Prepare
+pub mod Open
