@@ -7,23 +7,23 @@ use native.Mathlib.Nat.{mod-lt, div-add-mod', div-lt-iff-lt-mul, add-zero, zero-
 use native.Mathlib.Numerals.{add-one}
 use native.Mathlib.Decide.{ℕ-discrete, decLt}
 use native.Mathlib.Omega.{arith}
-use lib.Arith.{digits-lt, digits-div, digits-mod}
-use lib.Bits.{bitXor, bitAnd, differ, xor-zero-l, and-zero-l, and-zero-r, xor-comm}
+use lib.Arith.{digits-div, digits-mod}
+use lib.Bits.{bitXor, bitAnd, differ, and-zero-l, and-zero-r}
 use lib.Dec.{eqb, ltb}
 use lib.ListN.{length, getD, take, drop, set, length-set, take-append-drop, List·getD-append, List·getD-eq-default}
 use lib.Pow.{pow-pos, pow-mono}
-use lib.Seq.{ext-getD, getD-set-same, getD-set-other, take-at, getD-take}
+use lib.Seq.{getD-set-same, getD-set-other, take-at, getD-take}
 use borrow.Author.Tests.{eq-eqb, ne-eqb, lt-ltb, le-ltb}
 use Rattle.basics.specs.Choice.{pick}
-use Rattle.basics.specs.Bytes.{build, pack, bit, lines, _⊕_}
+use Rattle.basics.specs.Bytes.{build, pack, bit, _⊕_}
 use Rattle.basics.specs.Padding.{colBytes}
-use Rattle.basics.proofs.Bytes.{length-build, getD-build, build-is, build-ext, build-getD, pack-ext, xor-pack, length-xor, getD-xor, pos-right, bit-small}
+use Rattle.basics.proofs.Bytes.{length-build, getD-build, build-is, build-ext, pack-ext, xor-pack, pos-right, bit-small}
 use Rattle.basics.proofs.Choice.{picked}
 use Rattle.basics.proofs.Fill.{Filled, filled-none, filled-more}
 use Rattle.words.specs.Code.{Code, k, pairs, choices, codeOf, parity, parity-digit, pair-digit}
 use Rattle.words.proofs.Parity.{parity-low, parity-high, parity-small, differ-zero}
 use Rattle.construction.specs.Transfer.{chosen}
-use Rattle.construction.proofs.Bytewise.{length-chosen, chosen-byte}
+use Rattle.construction.proofs.Bytewise.{chosen-byte}
 use Rattle.buyer.specs.Chosen.{placeByte, Begins, addedBytes}
 
 -- ---- words
@@ -93,7 +93,6 @@ module _ (mode : ℕ) (sel : List ℕ) (j : ℕ) where
       pack-ext 8 (f (2 ^ t + x)) (λ e. differ (f x e) (differ (f (2 ^ t) e) (f 0 e))) (λ e l. turned mode (getD sel (j + e) 0) t x h)
       ∙ sym (ap (bitXor (pack 8 (f x))) (xor-pack 8 (f (2 ^ t)) (f 0) (small (2 ^ t)) (small 0))
       ∙ xor-pack 8 (f x) (λ e. differ (f (2 ^ t) e) (f 0 e)) (small x) (λ e. differ-small (f (2 ^ t) e) (f 0 e) (small (2 ^ t) e) (small 0 e)))
-
 
 -- ---- the table, by its front
 

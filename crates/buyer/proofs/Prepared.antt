@@ -5,7 +5,6 @@ use mathlib.Core.List.{List, [], _++_, append-nil}
 use Prim.Native.Nat.{ℕ, _+_, _-_, _*_, _/_, _≤_, _<_}
 use native.Mathlib.Omega.{arith}
 use lib.Bits.{bitXor, xor-comm, xor-zero-l}
-use lib.Dec.{eqb}
 use lib.ListN.{length, getD, take, drop, length-append, length-take, length-drop, drop-of-length-le}
 use lib.Seq.{ext-getD}
 use borrow.Author.Tests.{eq-eqb}
@@ -16,7 +15,7 @@ use Rattle.basics.specs.Padding.{colBytes}
 use Rattle.basics.proofs.Bytes.{length-build, getD-build, length-xor, getD-xor, xor-strings-assoc}
 use Rattle.basics.proofs.Choice.{picked}
 use Rattle.basics.proofs.Fill.{put-next}
-use Rattle.words.specs.Code.{k, codeOf}
+use Rattle.words.specs.Code.{codeOf}
 use Rattle.wire.specs.Shapes.{kOf}
 use Rattle.wire.specs.Message.{header, messageOf}
 use Rattle.construction.specs.Transfer.{chosen, rows, message, kept}

@@ -1,10 +1,10 @@
 -- k by a shape's mode is the places of the mode's code, and both are a power of two. Assumes nothing.
-use mathlib.Core.Path.{_≡_, refl, sym, ap, _∙_}
+use mathlib.Core.Path.{_≡_, refl}
 use mathlib.Core.Bool.{Bool, true, false}
-use Prim.Native.Nat.{ℕ, _+_, _*_, _/_, _^_, _≤_}
+use Prim.Native.Nat.{ℕ, _/_}
 use lib.Dec.{eqb}
 use Rattle.basics.specs.Choice.{pick}
-use Rattle.words.specs.Code.{Code, k, pairs, choices, codeOf}
+use Rattle.words.specs.Code.{k, pairs, choices, codeOf}
 use Rattle.wire.specs.Shapes.{kOf}
 
 pub k-of : (mode : ℕ) → kOf mode ≡ k (codeOf mode)

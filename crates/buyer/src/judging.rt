@@ -31,7 +31,11 @@ const TAG_STRINGS: u8 = 4;
 fn entry_bytes(seeded: bool, rows: u16) -> usize
     ensures { λ r. ⌜ (r ≡ entryBytes seeded rows) × (r ≤ 8192) ⌝ }
 {
-    if seeded { SEED_BYTES } else { column_bytes(rows) }
+    if seeded {
+        SEED_BYTES
+    } else {
+        column_bytes(rows)
+    }
 }
 
 // Refusals 6 and 7 of prepare.
@@ -141,7 +145,13 @@ pub(crate) fn judge_prepare(
 }
 
 // Refusals 6 and 7 of open.
-fn judge_open_lengths(s: Shape, session: usize, selections: usize, kept: usize, opened: usize) -> Verdict
+fn judge_open_lengths(
+    s: Shape,
+    session: usize,
+    selections: usize,
+    kept: usize,
+    opened: usize,
+) -> Verdict
     ensures { λ r. ⌜ r ≡ openLengths (s .mode) (s .rows) (s .bytes) session selections kept opened ⌝ }
 {
     let m = s.rows as usize;
@@ -153,7 +163,14 @@ fn judge_open_lengths(s: Shape, session: usize, selections: usize, kept: usize, 
 }
 
 // Refusals 1 to 8 of open in number order, then those of the received message from its front.
-pub(crate) fn judge_open(s: Shape, session: &[u8], selections: &[u8], kept: &[u8], received: &[u8], opened: usize) -> Verdict
+pub(crate) fn judge_open(
+    s: Shape,
+    session: &[u8],
+    selections: &[u8],
+    kept: &[u8],
+    received: &[u8],
+    opened: usize,
+) -> Verdict
     ensures { λ r. ⌜ r ≡ openVerdict (s .mode) (s .rows) (s .places) (s .bytes) (now (session .entry)) (now (selections .entry)) (now (kept .entry)) (now (received .entry)) opened ⌝ }
 {
     let shape = judge_shape(s);

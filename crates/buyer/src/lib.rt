@@ -23,7 +23,14 @@ pub fn prepare_from_columns(
     ensures { λ r. ⌜ Prepared false (shape .mode) (shape .rows) (shape .places) (shape .bytes) (now (session .entry)) (now (first .entry)) (now (second .entry)) (now (selections .entry)) (now (message .entry)) (now (kept .entry)) r (now (message .exit)) (now (kept .exit)) ⌝ }
 {
     preparing::prepare(
-        false, shape, session, first, second, selections, message, kept,
+        false,
+        shape,
+        session,
+        first,
+        second,
+        selections,
+        message,
+        kept,
     )
 }
 
@@ -40,12 +47,26 @@ pub fn prepare_from_seeds(
     ensures { λ r. ⌜ Prepared true (shape .mode) (shape .rows) (shape .places) (shape .bytes) (now (session .entry)) (now (first .entry)) (now (second .entry)) (now (selections .entry)) (now (message .entry)) (now (kept .entry)) r (now (message .exit)) (now (kept .exit)) ⌝ }
 {
     preparing::prepare(
-        true, shape, session, first, second, selections, message, kept,
+        true,
+        shape,
+        session,
+        first,
+        second,
+        selections,
+        message,
+        kept,
     )
 }
 
 // Open the received answer.
-pub fn open(shape: Shape, session: &[u8], selections: &[u8], kept: &[u8], received: &[u8], opened: &mut [u8]) -> Verdict
+pub fn open(
+    shape: Shape,
+    session: &[u8],
+    selections: &[u8],
+    kept: &[u8],
+    received: &[u8],
+    opened: &mut [u8],
+) -> Verdict
     ensures { λ r. ⌜ Opened (shape .mode) (shape .rows) (shape .places) (shape .bytes) (now (session .entry)) (now (selections .entry)) (now (kept .entry)) (now (received .entry)) (now (opened .entry)) r (now (opened .exit)) ⌝ }
 {
     opening::open_received(shape, session, selections, kept, received, opened)

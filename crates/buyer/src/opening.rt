@@ -41,7 +41,14 @@ fn string_at(j: usize, n: usize, r: u8, l: usize) -> usize
 }
 
 // Opens each row.
-fn open_rows(s: Shape, session: &[u8], selections: &[u8], kept: &[u8], strings: &[u8], opened: &mut [u8])
+fn open_rows(
+    s: Shape,
+    session: &[u8],
+    selections: &[u8],
+    kept: &[u8],
+    strings: &[u8],
+    opened: &mut [u8],
+)
     requires { ⌜ OpenFits (s .mode) (s .rows) (s .places) (s .bytes) (now session) (now selections) (now kept) (now strings) (now opened) ⌝ }
     ensures { λ _. ⌜ now (opened .exit) ≡ openedRows (s .mode) (s .rows) (s .places) (s .bytes) (now (session .entry)) (now (selections .entry)) (now (kept .entry)) (now (strings .entry)) ⌝ }
 {
@@ -71,7 +78,14 @@ fn open_rows(s: Shape, session: &[u8], selections: &[u8], kept: &[u8], strings: 
 }
 
 // Opens the received strings.
-pub(crate) fn open_received(s: Shape, session: &[u8], selections: &[u8], kept: &[u8], received: &[u8], opened: &mut [u8]) -> Verdict
+pub(crate) fn open_received(
+    s: Shape,
+    session: &[u8],
+    selections: &[u8],
+    kept: &[u8],
+    received: &[u8],
+    opened: &mut [u8],
+) -> Verdict
     ensures { λ r. ⌜ Opened (s .mode) (s .rows) (s .places) (s .bytes) (now (session .entry)) (now (selections .entry)) (now (kept .entry)) (now (received .entry)) (now (opened .entry)) r (now (opened .exit)) ⌝ }
 {
     let verdict = judge_open(s, session, selections, kept, received, opened.len());

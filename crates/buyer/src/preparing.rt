@@ -46,7 +46,14 @@ fn put_second(
     ensures { λ _. ⌜ now (block .exit) ≡ keptColumns seeded mode rows (now (session .entry)) (now (second .entry)) (now (selections .entry)) ⌝ }
 {
     clear(block);
-    add_set(seeded, columns_of(mode) as u16, rows, session, second, block);
+    add_set(
+        seeded,
+        columns_of(mode) as u16,
+        rows,
+        session,
+        second,
+        block,
+    );
     add_chosen(mode, rows, selections, block);
 }
 

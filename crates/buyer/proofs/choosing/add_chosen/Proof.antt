@@ -1,9 +1,8 @@
 -- `buyer::choosing::add_chosen` meets its contract. The invariant: D was added to the columns' bytes below b. Assumes nothing.
-use mathlib.Core.Path.{_≡_, sym, ap, _∙_}
-use Prim.Native.Nat.{ℕ, _+_, _-_, _*_, _≤_, _<_}
+use mathlib.Core.Path.{sym, ap, _∙_}
+use Prim.Native.Nat.{ℕ, _-_, _*_, _≤_}
 use native.Mathlib.Omega.{arith}
 use borrow.Author.Needs.{needs}
-use lib.ListN.{length}
 use Rattle.basics.specs.Padding.{colBytes}
 use Rattle.words.specs.Code.{k, codeOf}
 use Rattle.construction.specs.Transfer.{chosen}
@@ -11,10 +10,6 @@ use Rattle.buyer.specs.Chosen.{placeByte, addedBytes}
 use Rattle.buyer.proofs.Chosen.{Below, below-none, below-more, below-end, chosen-at}
 use Rattle.buyer.proofs.choosing.add_chosen.Statement.{statement}
 use Rattle.buyer.proofs.choosing.add_chosen.Tie as tie
-use Rattle.buyer.proofs.choosing.add_chosen.Reads as reads
-use Rattle.buyer.proofs.choosing.add_chosen.Lts as lts
-use Rattle.buyer.proofs.choosing.add_eight.Reads as add-eight-reads
-use Rattle.wire.proofs.column_bytes.Reads as column-bytes-reads
 
 abbrev Inv-loop : tie.InvT-loop
 Inv-loop mode rows selections block₀ c b₀ block b = (Below (chosen (codeOf mode) rows selections) (colBytes rows) b block₀ block) × (b ≤ c)
@@ -42,8 +37,8 @@ loop-again c =
     let a = s .args in
     let f : ℕ → ℕ = placeByte (codeOf (a .mode)) (a .selections .now) (l .loop .b * 8) in (
       below-more f (l .loop .inv .0)
-      (c .before .before .add-eight .ensures ∙ ap (λ (x : ℕ). addedBytes x (l .loop .b) f (l .loop .block)) (l .before .column-bytes .ensures))
-      (λ p h e. chosen-at (a .mode) (a .rows) (a .selections .now) (s .pre .0) (l .loop .b) p (omega (arith, s .pre .1)) e),
+          (c .before .before .add-eight .ensures ∙ ap (λ (x : ℕ). addedBytes x (l .loop .b) f (l .loop .block)) (l .before .column-bytes .ensures))
+          (λ p h e. chosen-at (a .mode) (a .rows) (a .selections .now) (s .pre .0) (l .loop .b) p (omega (arith, s .pre .1)) e),
       omega arith,
     )
 

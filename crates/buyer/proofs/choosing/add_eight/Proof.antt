@@ -1,20 +1,14 @@
 -- `buyer::choosing::add_eight` meets its contract: the table holds what the eight rows give to each column. Assumes nothing.
-use mathlib.Core.Path.{_≡_, sym, ap, _∙_}
+use mathlib.Core.Path.{sym, ap, _∙_}
 use Prim.Native.Nat.{ℕ, _*_}
 use native.Mathlib.Omega.{arith}
 use borrow.Author.Needs.{needs}
-use lib.ListN.{getD}
 use Rattle.words.specs.Code.{k, codeOf}
 use Rattle.buyer.specs.Chosen.{placeByte}
 use Rattle.buyer.proofs.Chosen.{begins-at, added-ext}
 use Rattle.buyer.proofs.Sizes.{k-of}
 use Rattle.buyer.proofs.choosing.add_eight.Statement.{statement}
 use Rattle.buyer.proofs.choosing.add_eight.Tie as tie
-use Rattle.buyer.proofs.choosing.add_eight.Reads as reads
-use Rattle.buyer.proofs.choosing.add_eight.Lts as lts
-use Rattle.buyer.proofs.choosing.add_table.Reads as add-table-reads
-use Rattle.buyer.proofs.choosing.fill_table.Reads as fill-table-reads
-use Rattle.wire.proofs.columns_of.Reads as columns-of-reads
 
 add-table-requires : tie.Need-add-table-requires
 add-table-requires c κs =

@@ -1,6 +1,6 @@
 -- `buyer::choosing::add_table` meets its contract. The invariant: the table was added to byte b of the columns below i. Assumes nothing.
 use mathlib.Core.Path.{_≡_, refl}
-use Prim.Native.Nat.{ℕ, _+_, _-_, _*_, _≤_, _<_}
+use Prim.Native.Nat.{_+_, _-_, _*_, _≤_, _<_}
 use native.Mathlib.Omega.{arith}
 use borrow.Author.Needs.{needs}
 use lib.Arith.{digits-lt}
@@ -10,8 +10,6 @@ use Rattle.columns.proofs.Gathered.{row-next}
 use Rattle.buyer.proofs.Chosen.{Added, added-none, added-more, added-end}
 use Rattle.buyer.proofs.choosing.add_table.Statement.{statement}
 use Rattle.buyer.proofs.choosing.add_table.Tie as tie
-use Rattle.buyer.proofs.choosing.add_table.Reads as reads
-use Rattle.buyer.proofs.choosing.add_table.Lts as lts
 
 abbrev Inv-loop : tie.InvT-loop
 Inv-loop c b k table block₀ i₀ at₀ block i at = (Added (λ x. getD table x 0) c b i block₀ block) × (i ≤ k) × (at ≡ i * c + b)

@@ -1,20 +1,16 @@
 -- `buyer::choosing::double` meets its contract. The invariant: the table's front holds the bytes of 2^t + x columns. Assumes nothing.
 use mathlib.Core.Path.{_≡_, refl, sym, ap, ap₂, _∙_}
-use Prim.Native.Nat.{ℕ, _+_, _-_, _*_, _^_, _≤_, _<_}
+use Prim.Native.Nat.{ℕ, _+_, _-_, _^_, _≤_}
 use native.Mathlib.Omega.{arith}
 use borrow.Author.Needs.{needs}
 use lib.Bits.{bitXor}
 use lib.Pow.{pow-pos}
-use lib.ListN.{length, getD}
 use Rattle.basics.proofs.Fill.{Filled}
 use Rattle.words.specs.Code.{codeOf}
 use Rattle.buyer.specs.Chosen.{placeByte}
 use Rattle.buyer.proofs.Chosen.{place-turned, filled-front, filled-step, filled-at, front-filled, half-is}
 use Rattle.buyer.proofs.choosing.double.Statement.{statement}
 use Rattle.buyer.proofs.choosing.double.Tie as tie
-use Rattle.buyer.proofs.choosing.double.Reads as reads
-use Rattle.buyer.proofs.choosing.double.Lts as lts
-use Rattle.buyer.proofs.choosing.places.Reads as places-reads
 
 abbrev Inv-loop : tie.InvT-loop
 Inv-loop mode selections j t table₀ half turn x₀ table x =
@@ -69,8 +65,8 @@ loop-again c =
     let a = s .args in
     let f = placeByte (codeOf (a .mode)) (a .selections .now) (a .j) in (
       filled-step (l .loop .inv .0) (omega arith) (omega (arith, s .pre .3 .long))
-      (ap₂ bitXor (filled-at (l .loop .inv .0) (l .loop .x) (omega arith)) (l .loop .inv .4)
-      ∙ sym (ap (λ (h : ℕ). f (h + l .loop .x)) (l .loop .inv .2) ∙ place-turned (a .mode) (a .selections .now) (a .j) (a .t) (l .loop .x) (omega arith))),
+          (ap₂ bitXor (filled-at (l .loop .inv .0) (l .loop .x) (omega arith)) (l .loop .inv .4)
+          ∙ sym (ap (λ (h : ℕ). f (h + l .loop .x)) (l .loop .inv .2) ∙ place-turned (a .mode) (a .selections .now) (a .j) (a .t) (l .loop .x) (omega arith))),
       omega arith,
       l .loop .inv .2,
       l .loop .inv .3,

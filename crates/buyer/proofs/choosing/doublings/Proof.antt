@@ -1,6 +1,5 @@
 -- `buyer::choosing::doublings` meets its contract: each branch is a case of the code of a mode. Assumes nothing.
-use mathlib.Core.Path.{_≡_, sym, ap, _∙_}
-use Prim.Native.Nat.{ℕ, _^_}
+use mathlib.Core.Path.{sym, ap}
 use native.Mathlib.Omega.{arith}
 use Rattle.words.specs.Code.{Code, k}
 use Rattle.words.proofs.Words.{codeOf-choices, codeOf-pairs}

@@ -1,17 +1,14 @@
 -- `buyer::choosing::fill_table` meets its contract. The invariant: the table begins with the bytes of 2^t columns. Assumes nothing.
-use mathlib.Core.Path.{_≡_, refl, sym, ap, _∙_}
-use Prim.Native.Nat.{ℕ, _+_, _-_, _*_, _^_, _≤_, _<_}
+use mathlib.Core.Path.{_≡_, sym, ap, _∙_}
+use Prim.Native.Nat.{ℕ, _-_, _^_, _≤_}
 use native.Mathlib.Omega.{arith}
 use borrow.Author.Needs.{needs}
 use lib.Pow.{pow-pos, pow-lt}
-use lib.ListN.{length, getD}
 use Rattle.words.specs.Code.{k, codeOf}
-use Rattle.buyer.specs.Chosen.{placeByte, Begins}
+use Rattle.buyer.specs.Chosen.{Begins}
 use Rattle.buyer.proofs.Chosen.{begins-one, begins-twice}
 use Rattle.buyer.proofs.choosing.fill_table.Statement.{statement}
 use Rattle.buyer.proofs.choosing.fill_table.Tie as tie
-use Rattle.buyer.proofs.choosing.fill_table.Reads as reads
-use Rattle.buyer.proofs.choosing.fill_table.Lts as lts
 
 abbrev Inv-loop : tie.InvT-loop
 Inv-loop mode selections j table₀ most t₀ table t = (Begins (codeOf mode) selections j (2 ^ t) table) × (t ≤ most)

@@ -1,6 +1,6 @@
 -- `buyer::choosing::place_of` meets its contract: a bit of a word's byte is the word's place. Assumes nothing.
-use mathlib.Core.Path.{_≡_, ap, _∙_}
-use Prim.Native.Nat.{ℕ, _/_, _%_}
+use mathlib.Core.Path.{ap, _∙_}
+use Prim.Native.Nat.{ℕ, _%_}
 use borrow.Author.Needs.{needs}
 use Rattle.basics.specs.Bytes.{bit}
 use Rattle.words.specs.Code.{codeOf}

@@ -1,6 +1,5 @@
 -- `buyer::judging::judge_lengths` meets its contract: the checks are the definition's, in its order. Assumes nothing.
-use mathlib.Core.Path.{_≡_, sym, ap, ap₂, _∙_}
-use Prim.Native.Nat.{ℕ, _+_, _*_, _/_, _≤_}
+use Prim.Native.Nat.{_/_}
 use native.Mathlib.Omega.{arith}
 use borrow.Author.Needs.{needs}
 use Rattle.basics.proofs.Bytes.{mul-le-both}
@@ -13,8 +12,11 @@ mul-set c = omega (arith, mul-le-both (c .before .columns-of .result) (c .entry-
 
 mul-block : tie.Need-mul-block
 mul-block c =
-    omega (arith, mul-le-both (c .before .before .columns-of .result) (c .column-bytes .result) 256 8192 (c .before .before .columns-of .ensures .high)
-    (omega (arith, c .column-bytes .ensures)))
+    omega (
+      arith,
+      mul-le-both (c .before .before .columns-of .result) (c .column-bytes .result) 256 8192 (c .before .before .columns-of .ensures .high)
+          (omega (arith, c .column-bytes .ensures)),
+    )
 
 mul-refuse-unless : tie.Need-mul-refuse-unless
 mul-refuse-unless c =
@@ -32,9 +34,17 @@ returns : tie.Need-returns
 unfolding prepareLengths
 returns c =
     let sizes = c .before .before .before .before .before .before .before in
-    rw (c .refuse-unless6 .ensures, c .before .refuse-unless5 .ensures, c .before .before .refuse-unless4 .ensures, c .before .before .before .refuse-unless3 .ensures,
-    c .before .before .before .before .refuse-unless2 .ensures, c .before .before .before .before .before .refuse-unless .ensures,
-    sizes .column-bytes .ensures, sizes .before .entry-bytes .ensures .0, sizes .before .before .columns-of .ensures .is)
+    rw (
+      c .refuse-unless6 .ensures,
+      c .before .refuse-unless5 .ensures,
+      c .before .before .refuse-unless4 .ensures,
+      c .before .before .before .refuse-unless3 .ensures,
+      c .before .before .before .before .refuse-unless2 .ensures,
+      c .before .before .before .before .before .refuse-unless .ensures,
+      sizes .column-bytes .ensures,
+      sizes .before .entry-bytes .ensures .0,
+      sizes .before .before .columns-of .ensures .is,
+    )
 
 pub judge-lengths-spec : {M : Type 1} → statement M
 judge-lengths-spec =

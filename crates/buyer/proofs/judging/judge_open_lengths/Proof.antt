@@ -1,6 +1,5 @@
 -- `buyer::judging::judge_open_lengths` meets its contract: the checks are the definition's, in its order. Assumes nothing.
-use mathlib.Core.Path.{_≡_, sym, ap, ap₂, _∙_}
-use Prim.Native.Nat.{ℕ, _+_, _*_, _/_, _≤_}
+use Prim.Native.Nat.{_/_}
 use native.Mathlib.Omega.{arith}
 use borrow.Author.Needs.{needs}
 use Rattle.basics.proofs.Bytes.{mul-le-both}
@@ -21,8 +20,13 @@ mul-refuse-unless-2 c =
 returns : tie.Need-returns
 unfolding openLengths
 returns c =
-    rw (c .refuse-unless4 .ensures, c .before .refuse-unless3 .ensures, c .before .before .refuse-unless2 .ensures, c .before .before .before .columns-of .ensures .is,
-    c .before .before .before .before .refuse-unless .ensures)
+    rw (
+      c .refuse-unless4 .ensures,
+      c .before .refuse-unless3 .ensures,
+      c .before .before .refuse-unless2 .ensures,
+      c .before .before .before .columns-of .ensures .is,
+      c .before .before .before .before .refuse-unless .ensures,
+    )
 
 pub judge-open-lengths-spec : {M : Type 1} → statement M
 judge-open-lengths-spec =

@@ -1,5 +1,4 @@
 -- `buyer::judging::judge_sets` meets its contract: each return is a case of the definition. Assumes nothing.
-use mathlib.Core.Path.{_≡_, refl, sym, ap, _∙_}
 use borrow.Author.Needs.{needs}
 use Rattle.basics.proofs.Verdicts.{stop, go}
 use Rattle.buyer.specs.Prepare.{setsPadding}

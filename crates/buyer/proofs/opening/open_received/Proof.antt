@@ -1,6 +1,6 @@
 -- `buyer::opening::open_received` meets its contract: on a refusal nothing is written, and otherwise the message's block is opened. Assumes nothing.
-use mathlib.Core.Path.{_≡_, refl, sym, ap, _∙_}
-use Prim.Native.Nat.{ℕ, _+_, _-_, _*_, _≤_}
+use mathlib.Core.Path.{_≡_, refl, ap, _∙_}
+use Prim.Native.Nat.{ℕ, _+_, _-_, _*_}
 use native.Mathlib.Omega.{arith}
 use borrow.Author.Needs.{needs}
 use lib.ListN.{length}
@@ -12,10 +12,6 @@ use Rattle.buyer.proofs.Prepared.{part-long}
 use Rattle.buyer.proofs.Opened.{part-all}
 use Rattle.buyer.proofs.opening.open_received.Statement.{statement}
 use Rattle.buyer.proofs.opening.open_received.Tie as tie
-use Rattle.buyer.proofs.opening.open_received.Reads as reads
-use Rattle.buyer.proofs.opening.open_received.Lts as lts
-use Rattle.buyer.proofs.judging.judge_open.Reads as judge-open-reads
-use Rattle.buyer.proofs.opening.open_rows.Reads as open-rows-reads
 
 returns : tie.Need-returns
 returns c = gives-old (c .before .before .judge-open .ensures) (c .if1 .taken) refl

@@ -1,5 +1,5 @@
 -- `buyer::opening::open_row` meets its contract: the pad is written, and the string is xored over it. Assumes nothing.
-use mathlib.Core.Path.{_≡_, ap, _∙_}
+use mathlib.Core.Path.{ap, _∙_}
 use mathlib.Core.List.{List}
 use Prim.Native.Nat.{ℕ}
 use borrow.Author.Needs.{needs}

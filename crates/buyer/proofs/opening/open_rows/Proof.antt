@@ -1,7 +1,6 @@
 -- `buyer::opening::open_rows` meets its contract. The invariant: the rows before j are opened; their strings end at a, and kept row j begins at b.
 -- Assumes nothing.
 use mathlib.Core.Path.{_≡_, refl, sym, ap, ap₂, _∙_}
-use mathlib.Core.List.{List}
 use Prim.Native.Nat.{ℕ, _+_, _-_, _*_, _≤_, _<_}
 use native.Mathlib.Omega.{arith}
 use borrow.Author.Needs.{needs}
@@ -9,15 +8,9 @@ use lib.ListN.{length, getD, take, drop}
 use Rattle.basics.specs.Bytes.{build}
 use Rattle.basics.proofs.Fill.{Filled, filled-none, filled-part, filled-end}
 use Rattle.columns.proofs.Gathered.{row-next}
-use Rattle.words.specs.Code.{codeOf}
 use Rattle.buyer.proofs.Opened.{line-fits, string-fits, part-of, openedAt, row-opened, rows-opened}
 use Rattle.buyer.proofs.opening.open_rows.Statement.{statement}
 use Rattle.buyer.proofs.opening.open_rows.Tie as tie
-use Rattle.buyer.proofs.opening.open_rows.Reads as reads
-use Rattle.buyer.proofs.opening.open_rows.Lts as lts
-use Rattle.buyer.proofs.opening.open_row.Reads as open-row-reads
-use Rattle.buyer.proofs.opening.string_at.Reads as string-at-reads
-use Rattle.columns.proofs.row_bytes.Reads as row-bytes-reads
 
 abbrev Inv-loop : tie.InvT-loop
 Inv-loop session selections kept strings opened₀ m n l w j₀ a₀ b₀ opened j a b =
@@ -98,10 +91,10 @@ loop-again c =
     let string-size : at .result + a .s .bytes - at .result ≡ a .s .bytes = omega arith in
     let row-size : l .loop .b + w - l .loop .b ≡ w = omega arith in (
       filled-part (a .s .bytes) (l .loop .inv .0) refl (r .0)
-      (c .before .before .open-row .ensures
-      ∙ row-opened (a .session .now) w (a .s .places) (a .s .bytes) (a .selections .now) (a .kept .now) (a .strings .now) (l .loop .j) string out
-      (ap₂ (λ (x y : ℕ). take x (drop y (a .strings .now))) string-size (at .ensures)) (ap₂ (λ (x y : ℕ). take x (drop y (a .kept .now))) row-size (l .loop .inv .3))
-      ∙ ap (λ (x : ℕ). build (a .s .bytes) (λ p. f (x + p))) (sym (l .loop .inv .2))),
+          (c .before .before .open-row .ensures
+          ∙ row-opened (a .session .now) w (a .s .places) (a .s .bytes) (a .selections .now) (a .kept .now) (a .strings .now) (l .loop .j) string out
+          (ap₂ (λ (x y : ℕ). take x (drop y (a .strings .now))) string-size (at .ensures)) (ap₂ (λ (x y : ℕ). take x (drop y (a .kept .now))) row-size (l .loop .inv .3))
+          ∙ ap (λ (x : ℕ). build (a .s .bytes) (λ p. f (x + p))) (sym (l .loop .inv .2))),
       omega (arith, h),
       omega (arith, row-next (a .s .bytes) (l .loop .j), l .loop .inv .2),
       omega (arith, row-next w (l .loop .j), l .loop .inv .3),

@@ -1,5 +1,5 @@
 -- `buyer::opening::string_at` meets its contract: the products are small. Assumes nothing.
-use Prim.Native.Nat.{ℕ, _+_, _*_, _≤_}
+use Prim.Native.Nat.{_+_, _*_, _≤_}
 use native.Mathlib.Omega.{arith}
 use borrow.Author.Needs.{needs}
 use Rattle.basics.proofs.Bytes.{mul-le-both}

@@ -1,5 +1,5 @@
 -- `buyer::opening::xor_over` meets its contract. The invariant: the first p bytes are xored, the others are as they were. Assumes nothing.
-use mathlib.Core.Path.{_≡_, refl, ap, _∙_}
+use mathlib.Core.Path.{ap}
 use Prim.Native.Nat.{ℕ, _-_}
 use borrow.Author.Needs.{needs}
 use native.Mathlib.Omega.{arith}

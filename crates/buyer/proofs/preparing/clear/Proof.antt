@@ -1,6 +1,6 @@
 -- `buyer::preparing::clear` meets its contract. The invariant: the first p bytes are 0. Assumes nothing.
-use mathlib.Core.Path.{_≡_, refl}
-use Prim.Native.Nat.{ℕ, _-_}
+use mathlib.Core.Path.{refl}
+use Prim.Native.Nat.{_-_}
 use borrow.Author.Needs.{needs}
 use lib.ListN.{length}
 use Rattle.basics.proofs.Fill.{Filled, filled-none, filled-more, filled-end}

@@ -1,5 +1,5 @@
 -- `buyer::preparing::fill` meets its contract: the kept rows are gathered before the first set's columns are added. Assumes nothing.
-use mathlib.Core.Path.{_≡_, ap, _∙_}
+use mathlib.Core.Path.{ap, _∙_}
 use mathlib.Core.List.{List}
 use Prim.Native.Nat.{ℕ}
 use borrow.Author.Needs.{needs}
@@ -21,12 +21,12 @@ returns c =
     let a = s .args in
     let cols = p .put-second .ensures in (
       set-added (a .seeded) (a .mode) (a .rows) (a .session .now) (a .first .now) (a .block .now) (s .pre .0) (n .columns-of .result) _ (n .columns-of .ensures .is)
-      (ap length cols ∙ length-keptColumns (a .seeded) (a .mode) (a .rows) (a .session .now) (a .second .now) (a .selections .now) (a .block .now) (s .pre .1))
-      (set .add-set .ensures)
-      ∙ ap (λ (x : List ℕ). x ⊕ columnsOf (a .seeded) (kOf (a .mode)) (a .rows) (a .session .now) (a .first .now)) cols
-      ∙ block-sent (a .seeded) (a .mode) (a .rows) (a .session .now) (a .second .now) (a .selections .now) (a .block .now) (s .pre .1) (a .first .now) (s .pre .0),
+          (ap length cols ∙ length-keptColumns (a .seeded) (a .mode) (a .rows) (a .session .now) (a .second .now) (a .selections .now) (a .block .now) (s .pre .1))
+          (set .add-set .ensures)
+          ∙ ap (λ (x : List ℕ). x ⊕ columnsOf (a .seeded) (kOf (a .mode)) (a .rows) (a .session .now) (a .first .now)) cols
+          ∙ block-sent (a .seeded) (a .mode) (a .rows) (a .session .now) (a .second .now) (a .selections .now) (a .block .now) (s .pre .1) (a .first .now) (s .pre .0),
       rows-kept (a .seeded) (a .mode) (a .rows) (a .session .now) (a .second .now) (a .selections .now) (a .block .now) (s .pre .1) _ (a .kept .now) cols (s .pre .3)
-      (g .gather-rows .ensures),
+          (g .gather-rows .ensures),
     )
 
 pub fill-spec : {M : Type 1} → statement M

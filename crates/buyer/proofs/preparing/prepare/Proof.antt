@@ -1,10 +1,10 @@
 -- `buyer::preparing::prepare` meets its contract: on a refusal nothing is written, and otherwise the header and the block make the message. Assumes nothing.
-use mathlib.Core.Path.{_≡_, refl, sym, ap, _∙_}
-use mathlib.Core.List.{List, _++_}
-use Prim.Native.Nat.{ℕ, _+_, _-_, _*_, _≤_}
+use mathlib.Core.Path.{_≡_, refl, ap, _∙_}
+use mathlib.Core.List.{List}
+use Prim.Native.Nat.{ℕ, _-_, _*_}
 use native.Mathlib.Omega.{arith}
 use borrow.Author.Needs.{needs}
-use lib.ListN.{length, take, drop, length-take, length-drop}
+use lib.ListN.{length}
 use Rattle.basics.proofs.Verdicts.{gives-new, gives-old}
 use Rattle.basics.specs.Padding.{colBytes}
 use Rattle.wire.specs.Shapes.{kOf}
@@ -15,11 +15,6 @@ use Rattle.buyer.proofs.Judged.{Prepares, prepare-passed}
 use Rattle.buyer.proofs.Prepared.{length-put, block-put, part-long, length-columnBlock, message-made}
 use Rattle.buyer.proofs.preparing.prepare.Statement.{statement}
 use Rattle.buyer.proofs.preparing.prepare.Tie as tie
-use Rattle.buyer.proofs.preparing.prepare.Reads as reads
-use Rattle.buyer.proofs.preparing.prepare.Lts as lts
-use Rattle.buyer.proofs.judging.judge_prepare.Reads as judge-prepare-reads
-use Rattle.buyer.proofs.preparing.fill.Reads as fill-reads
-use Rattle.buyer.proofs.preparing.put_header.Reads as put-header-reads
 
 returns : tie.Need-returns
 returns c =
@@ -63,9 +58,9 @@ fill-requires c κs =
     let z = ok x in
     let block = part-long (h .put-header .last .1 .1 .0) (kOf (a .s .mode) * colBytes (a .s .rows)) (same h ∙ z .lengths .message-long) in (
       set-fit-holds (a .seeded) (kOf (a .s .mode)) (a .s .rows) _ _ _
-      (record { some = z .shape .rows-some; few = z .shape .rows-few; session-long = z .lengths .session-long; set-long = z .lengths .first-long; block-long = block }),
+          (record { some = z .shape .rows-some; few = z .shape .rows-few; session-long = z .lengths .session-long; set-long = z .lengths .first-long; block-long = block }),
       set-fit-holds (a .seeded) (kOf (a .s .mode)) (a .s .rows) _ _ _
-      (record { some = z .shape .rows-some; few = z .shape .rows-few; session-long = z .lengths .session-long; set-long = z .lengths .second-long; block-long = block }),
+          (record { some = z .shape .rows-some; few = z .shape .rows-few; session-long = z .lengths .session-long; set-long = z .lengths .second-long; block-long = block }),
       z .lengths .selections-long,
       z .lengths .kept-long,
     )

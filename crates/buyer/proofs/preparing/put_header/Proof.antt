@@ -1,10 +1,10 @@
 -- `buyer::preparing::put_header` meets its contract: the part that is lent has the header's length, and so the header is written. Assumes nothing.
-use mathlib.Core.Path.{_≡_, ap, _∙_}
+use mathlib.Core.Path.{ap, _∙_}
 use mathlib.Core.List.{List, _++_}
 use Prim.Native.Nat.{ℕ}
 use native.Mathlib.Omega.{arith}
 use borrow.Author.Needs.{needs}
-use lib.ListN.{length, drop, length-take, length-drop}
+use lib.ListN.{drop, length-take, length-drop}
 use Rattle.wire.proofs.Message.{header-written}
 use Rattle.buyer.proofs.Prepared.{header-put}
 use Rattle.buyer.proofs.preparing.put_header.Statement.{statement}

@@ -1,5 +1,5 @@
 -- `buyer::preparing::put_second` meets its contract: in a block of zeros the set's columns stand alone, and D is added to them. Assumes nothing.
-use mathlib.Core.Path.{_≡_, sym, ap, _∙_}
+use mathlib.Core.Path.{ap, _∙_}
 use mathlib.Core.List.{List}
 use Prim.Native.Nat.{ℕ, _*_}
 use borrow.Author.Needs.{needs}
@@ -23,9 +23,9 @@ add-chosen-requires c κs =
     let a = s .args in (
       s .pre .1,
       ap length (set-alone (a .seeded) (a .mode) (a .rows) (a .session .now) (a .second .now) (a .block .now) (s .pre .0)
-      (n .columns-of .result) _ (n .columns-of .ensures .is) (zero .clear .ensures) (set .add-set .ensures))
-      ∙ set-long (a .seeded) (a .mode) (a .rows) (a .session .now) (a .second .now) (a .block .now) (s .pre .0)
-      ∙ ap (λ (x : ℕ). x * colBytes (a .rows)) (k-of (a .mode)),
+          (n .columns-of .result) _ (n .columns-of .ensures .is) (zero .clear .ensures) (set .add-set .ensures))
+          ∙ set-long (a .seeded) (a .mode) (a .rows) (a .session .now) (a .second .now) (a .block .now) (s .pre .0)
+          ∙ ap (λ (x : ℕ). x * colBytes (a .rows)) (k-of (a .mode)),
     )
 
 returns : tie.Need-returns
