@@ -1,1 +1,2 @@
 pub mod Pads
+pub mod Unique

@@ -1,0 +1,198 @@
+-- Laws of masking: the row that is hashed, the string of one row and place, and the loops over rows and over places. Assumes nothing.
+use mathlib.Core.Path.{_≡_, refl, sym, ap, ap₂, _∙_}
+use mathlib.Core.List.{List, _++_}
+use Prim.Native.Nat.{ℕ, zero, suc, _+_, _-_, _*_, _/_, _%_, _≤_, _<_}
+use native.Mathlib.Nat.{mod-lt, div-add-mod', div-lt-iff-lt-mul, add-mul, one-mul, suc-mul, mul-le-mul-right}
+use native.Mathlib.Decide.{decLt, ℕ-discrete}
+use native.Mathlib.Omega.{arith}
+use lib.Arith.{digits-lt, digits-div, digits-mod}
+use lib.Bits.{bitXor, bitAnd}
+use lib.ListN.{length, getD, take, drop, length-take, length-drop, length-append, List·getD-append}
+use lib.Seq.{getD-take, getD-drop, getD-append-add, length-take-le, take-at}
+use borrow.Rule.Slice.PartMut.{putMid, same-len-mid}
+use Rattle.basics.specs.Bytes.{build, line, _⊕_, _⊙_}
+use Rattle.basics.proofs.Bytes.{length-build, getD-build, build-is, build-ext, length-line, getD-and, pos-right, mul-le-both}
+use Rattle.basics.proofs.Fill.{Filled}
+use Rattle.words.specs.Code.{Code, codeOf, wordBytes}
+use Rattle.words.proofs.Words.{length-word}
+use Rattle.construction.specs.Transfer.{hashed, masking}
+use Rattle.construction.proofs.Bytewise.{masking-byte, length-masking}
+use Rattle.pads.specs.Pads.{padBytes}
+use Rattle.supplier.specs.Answer.{maskedStrings}
+use Rattle.supplier.specs.Masking.{Placed}
+
+-- ---- where rows and strings stand
+
+pub row-within : (m w j : ℕ) → j < m → j * w + w ≤ m * w
+row-within m w j h = let g : suc j * w ≤ m * w = mul-le-mul-right w h in let e = suc-mul j w in omega arith
+
+pub row-next : (w j : ℕ) → (j + 1) * w ≡ j * w + w
+row-next w j = add-mul j 1 w ∙ ap (λ (x : ℕ). j * w + x) (one-mul w)
+
+pub string-within : (m n l j r : ℕ) → j < m → r < n → (j * n + r) * l + l ≤ m * n * l
+string-within m n l j r hj hr = row-within (m * n) l (j * n + r) (digits-lt hj hr)
+
+pub string-next : (n l j r : ℕ) → ((j + 1) * n + r) * l ≡ (j * n + r) * l + n * l
+string-next n l j r =
+    ap (λ (x : ℕ). (x + r) * l) (row-next n j) ∙ ap (λ (x : ℕ). x * l) (let e : j * n + n + r ≡ j * n + r + n = omega arith in e) ∙ add-mul (j * n + r) n l
+
+pub volume-few : (m n l : ℕ) → m ≤ 1024 → n ≤ 256 → l ≤ 32 → m * n * l ≤ 8388608
+volume-few m n l hm hn hl = mul-le-both (m * n) l 262144 32 (mul-le-both m n 1024 256 hm hn) hl
+
+-- ---- the string of row j at place r, from the row q(j) and the place's word AND the secret
+
+-- the loop that puts the row together in front of a workspace
+pub hashed-made : (row word : List ℕ) {old now : List ℕ} {i : ℕ} → Filled (λ p. bitXor (getD row p 0) (getD word p 0)) i old now → i ≡ length row → take (length row) now ≡ row ⊕ word
+unfolding _⊕_
+hashed-made row word {old} {now} {i} z e =
+    ap₂ take (sym e) (z .holds) ∙ take-at (build i _) (drop i old) i (length-build i _) ∙ ap (λ (n : ℕ). build n (λ p. bitXor (getD row p 0) (getD word p 0))) e
+
+-- the word in 32 bytes serves as well as the word itself
+pub hashed-is : (C : Code) (s q : List ℕ) (j r m : ℕ) {row word : List ℕ} → j < m → length q ≡ m * C .width → C .width ≤ 32
+    → row ≡ line (C .width) q j → word ≡ build 32 (λ p. bitAnd (getD (wordBytes C r) p 0) (getD s p 0)) → row ⊕ word ≡ hashed C s q j r
+unfolding hashed _⊕_
+hashed-is C s q j r m {row} {word} hj hq hw hr hv =
+    ap₂ (λ (a b : List ℕ). build (length a) (λ p. bitXor (getD a p 0) (getD b p 0))) hr hv
+    ∙ build-ext (length (line (C .width) q j)) _ _
+    (λ p h.
+    let small : p < C .width = omega (arith, length-line (C .width) q j m hj hq) in
+    ap (bitXor (getD (line (C .width) q j) p 0))
+    (getD-build 32 _ p (omega arith) ∙ sym (getD-and (wordBytes C r) s p (omega (arith, length-word C r)))))
+
+module _ (mode m n l : ℕ) (session secret q strings : List ℕ) where
+  abbrev pub F : ℕ → ℕ
+  F p = getD (maskedStrings mode m n l session secret q strings) p 0
+
+  pub string-masked : {j r at : ℕ} {string row : List ℕ} → j < m → r < n → length strings ≡ m * n * l → at ≡ (j * n + r) * l → string ≡ take l (drop at strings)
+      → row ≡ hashed (codeOf mode) secret q j r → string ⊕ padBytes session (length string) j row ≡ build l (λ b. F (at + b))
+  unfolding _⊕_ maskedStrings
+  string-masked {j} {r} {at} {string} {row} hj hr hl ha hs hrow =
+      ap (λ (x : ℕ). build x (λ p. bitXor (getD string p 0) (getD (padBytes session x j row) p 0))) long
+      ∙ build-ext l _ _
+      (λ b hb.
+      ap₂ bitXor
+      (ap (λ (t : List ℕ). getD t b 0) hs ∙ getD-take l (drop at strings) b 0 hb ∙ getD-drop at strings b 0 ∙ ap (λ (x : ℕ). getD strings (x + b) 0) ha)
+      (ap (λ (t : List ℕ). getD (padBytes session l j t) b 0) hrow)
+      ∙ sym (ap (λ (x : ℕ). F (x + b)) ha ∙ masking-byte (codeOf mode) (padBytes session l) m n l secret q strings j r b hj hr hb))
+    where
+      long : length string ≡ l
+      long = ap length hs ∙ (simp (length-take, length-drop) (omega (arith, ha, hl, string-within m n l j r hj hr)))
+
+-- ---- a part of k bytes that was lent from `at` and came back as ys, byte by byte
+
+module _ (at k : ℕ) (now ys : List ℕ) (h : at + k ≤ length now) (hy : length ys ≡ k) where
+  front : length (take at now) ≡ at
+  front = length-take-le at now (omega arith)
+
+  put-before : (p : ℕ) → p < at → getD (putMid at k now ys) p 0 ≡ getD now p 0
+  put-before p l = List·getD-append (take at now) _ 0 p (omega (arith, front)) ∙ getD-take at now p 0 l
+
+  put-inside : (b : ℕ) → b < k → getD (putMid at k now ys) (at + b) 0 ≡ getD ys b 0
+  put-inside b l =
+      ap (λ (x : ℕ). getD (putMid at k now ys) (x + b) 0) (sym front)
+      ∙ getD-append-add (take at now) _ b 0 ∙ List·getD-append ys _ 0 b (omega arith)
+
+  put-after : (b : ℕ) → getD (putMid at k now ys) (at + (k + b)) 0 ≡ getD now (at + (k + b)) 0
+  put-after b =
+      ap (λ (x : ℕ). getD (putMid at k now ys) (x + (k + b)) 0) (sym front)
+      ∙ getD-append-add (take at now) _ (k + b) 0 ∙ ap (λ (x : ℕ). getD (ys ++ drop k (drop at now)) (x + b) 0) (sym hy)
+      ∙ getD-append-add ys _ b 0 ∙ getD-drop k (drop at now) b 0 ∙ getD-drop at now (k + b) 0
+
+  -- no byte outside the part changed
+  pub put-outside : (p : ℕ) → ((b : ℕ) → b < k → p ≡ at + b → ⊥) → getD (putMid at k now ys) p 0 ≡ getD now p 0
+  put-outside p n = side (decLt p at) (decLt p (at + k))
+    where
+      side : Dec (p < at) → Dec (p < at + k) → getD (putMid at k now ys) p 0 ≡ getD now p 0
+      side (yes l) d = put-before p l
+      side (no l) (yes u) = absurd (n (p - at) (omega arith) (omega arith))
+      side (no l) (no u) =
+          let e : at + (k + (p - (at + k))) ≡ p = omega arith in
+          ap (λ (x : ℕ). getD (putMid at k now ys) x 0) (sym e) ∙ put-after (p - (at + k)) ∙ ap (λ (x : ℕ). getD now x 0) e
+
+-- ---- the loop over the rows, at one place
+
+-- the place of a byte of the string at row j, place r
+place-of : (n l j r b : ℕ) → r < n → b < l → ((j * n + r) * l + b) / l % n ≡ r
+place-of n l j r b hr hb = ap (λ (x : ℕ). x % n) (digits-div (j * n + r) hb) ∙ digits-mod j hr
+
+pub placed-none : (f : ℕ → ℕ) (n l r : ℕ) (old : List ℕ) → Placed f n l r 0 old old
+placed-none f n l r old = record { long = refl; new = λ i b h. absurd (omega arith); same = λ p h. refl }
+
+pub placed-more : {f : ℕ → ℕ} {n l r j at e : ℕ} {old now ys : List ℕ} → Placed f n l r j old now → r < n → at ≡ (j * n + r) * l → e ≡ at + l → e ≤ length old
+    → ys ≡ build l (λ b. f (at + b)) → Placed f n l r (j + 1) old (putMid at (e - at) now ys)
+placed-more {f} {n} {l} {r} {j} {at} {e} {old} {now} {ys} z hr ha he hl hy = record {
+  long = ap (λ (x : ℕ). length (putMid at x now ys)) size ∙ same-len-mid at l now ys (hylen ∙ sym (simp (length-take, length-drop) (omega (arith, z .long)))) ∙ z .long;
+  new = λ i b hi hb. ap (λ (x : ℕ). getD (putMid at x now ys) ((i * n + r) * l + b) 0) size ∙ fresh i b hi hb (ℕ-discrete i j);
+  same = λ p hp. ap (λ (x : ℕ). getD (putMid at x now ys) p 0) size
+      ∙ put-outside at l now ys fits hylen p (λ b hb q. hp (ap (λ (x : ℕ). x / l % n) (q ∙ ap (λ (x : ℕ). x + b) ha) ∙ place-of n l j r b hr hb)) ∙ z .same p hp;
+}
+  where
+    size : e - at ≡ l
+    size = omega arith
+
+    hylen : length ys ≡ l
+    hylen = ap length hy ∙ length-build l _
+
+    fits : at + l ≤ length now
+    fits = omega (arith, z .long)
+
+    here : (b : ℕ) → b < l → getD (putMid at l now ys) (at + b) 0 ≡ f (at + b)
+    here b hb = put-inside at l now ys fits hylen b hb ∙ ap (λ (s : List ℕ). getD s b 0) hy ∙ getD-build l _ b hb
+
+    fresh : (i b : ℕ) → i < j + 1 → b < l → Dec (i ≡ j) → getD (putMid at l now ys) ((i * n + r) * l + b) 0 ≡ f ((i * n + r) * l + b)
+    fresh i b hi hb (yes q) =
+        let p : (i * n + r) * l + b ≡ at + b = ap (λ (x : ℕ). (x * n + r) * l + b) q ∙ ap (λ (x : ℕ). x + b) (sym ha) in
+        ap (λ (x : ℕ). getD (putMid at l now ys) x 0) p ∙ here b hb ∙ ap f (sym p)
+    fresh i b hi hb (no q) =
+        put-outside at l now ys fits hylen ((i * n + r) * l + b)
+        (λ d hd w.
+        q (sym (row-of i b hb) ∙ ap (λ (x : ℕ). x / l / n) (w ∙ ap (λ (x : ℕ). x + d) ha) ∙ row-of j d hd))
+        ∙ z .new i b (omega arith) hb
+      where
+        row-of : (i b : ℕ) → b < l → ((i * n + r) * l + b) / l / n ≡ i
+        row-of i b hb = ap (λ (x : ℕ). x / n) (digits-div (i * n + r) hb) ∙ digits-div i hr
+
+-- ---- the loop over the places
+
+-- the strings below place r hold f in every row
+pub record Masked (f : ℕ → ℕ) (m n l r : ℕ) (old now : List ℕ) : Type 0 where
+  pub long : length now ≡ length old
+  pub new : (i t b : ℕ) → i < m → t < r → b < l → getD now ((i * n + t) * l + b) 0 ≡ f ((i * n + t) * l + b)
+
+pub masked-none : (f : ℕ → ℕ) (m n l : ℕ) (old : List ℕ) → Masked f m n l 0 old old
+masked-none f m n l old = record { long = refl; new = λ i t b hi ht. absurd (omega arith) }
+
+pub masked-more : {f : ℕ → ℕ} {m n l r : ℕ} {old now next : List ℕ} → Masked f m n l r old now → Placed f n l r m now next → r < n → Masked f m n l (r + 1) old next
+masked-more {f} {m} {n} {l} {r} {old} {now} {next} z g hr = record {
+  long = g .long ∙ z .long;
+  new = λ i t b hi ht hb. side i t b hi ht hb (ℕ-discrete t r);
+}
+  where
+    side : (i t b : ℕ) → i < m → t < r + 1 → b < l → Dec (t ≡ r) → getD next ((i * n + t) * l + b) 0 ≡ f ((i * n + t) * l + b)
+    side i t b hi ht hb (yes q) =
+        ap (λ (x : ℕ). getD next ((i * n + x) * l + b) 0) q ∙ g .new i b hi hb ∙ ap (λ (x : ℕ). f ((i * n + x) * l + b)) (sym q)
+    side i t b hi ht hb (no q) =
+        g .same ((i * n + t) * l + b) (λ w. q (sym (place-of n l i t b (omega arith) hb) ∙ w)) ∙ z .new i t b hi (omega arith) hb
+
+pub masked-end : {f : ℕ → ℕ} {m n l r : ℕ} {old now : List ℕ} → Masked f m n l r old now → n ≤ r → length old ≡ m * n * l → now ≡ build (m * n * l) f
+masked-end {f} {m} {n} {l} {r} {old} {now} z hr hl =
+    sym
+    (build-is (m * n * l) f now (z .long ∙ hl)
+    (λ p h.
+    let pl : 0 < l = pos-right p (m * n) l h in
+    let string : p / l < m * n = div-lt-iff-lt-mul pl .1 h in
+    let pn : 0 < n = pos-right (p / l) m n string in
+    let row : p / l / n < m = div-lt-iff-lt-mul pn .1 string in
+    let place : p / l % n < n = mod-lt (p / l) pn in
+    let is : (p / l / n * n + p / l % n) * l + p % l ≡ p = ap (λ (x : ℕ). x * l + p % l) (div-add-mod' (p / l) n) ∙ div-add-mod' p l in
+    ap f (sym is) ∙ sym (z .new (p / l / n) (p / l % n) (p % l) row (omega arith) (mod-lt p pl)) ∙ ap (λ (x : ℕ). getD now x 0) is))
+
+-- the masked strings, from their bytes
+pub masked-all : (mode m n l : ℕ) (session secret q strings : List ℕ) → build (m * n * l) (F mode m n l session secret q strings) ≡ maskedStrings mode m n l session secret q strings
+unfolding maskedStrings
+masked-all mode m n l session secret q strings =
+    build-is (m * n * l) _ _ (length-masking (codeOf mode) (padBytes session l) m n l secret q strings) (λ p h. refl)
+
+pub length-masked : (mode m n l : ℕ) (session secret q strings : List ℕ) → length (maskedStrings mode m n l session secret q strings) ≡ m * n * l
+unfolding maskedStrings
+length-masked mode m n l session secret q strings = length-masking (codeOf mode) (padBytes session l) m n l secret q strings
