@@ -1,0 +1,3 @@
+-- The definitions: what is drawn, and what the supplier takes.
+pub mod Drawn
+pub mod Taken
