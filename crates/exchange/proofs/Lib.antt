@@ -1,0 +1,2 @@
+-- The laws of an exchange by the rules.
+pub mod Exchanged
