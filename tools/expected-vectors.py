@@ -104,6 +104,182 @@ def words():
         yield "words %s 0 at 0 %s" % (way, every)
 
 
-for subject in [symmetric, words]:
+# Subject: messages, from sections 6 to 8 alone. A message here is a shape, a tag and a block of zeros; `cut` gives it another length and
+# `set_byte` another byte.
+
+SESSION = bytes(range(12))
+
+
+def columns_of(mode):
+    return 256 if mode == 2 else 128
+
+
+def block_length(shape, tag):
+    mode, m, n, l = shape
+    return columns_of(mode) * -(-m // 8) if tag == 3 else m * n * l
+
+
+def whole(shape, tag):
+    mode, m, n, l = shape
+    length = block_length(shape, tag)
+    value = bytes([mode]) + m.to_bytes(2, "big") + n.to_bytes(2, "big") + bytes([l])
+    return b"\1\0\6" + value + b"\2\0\x0c" + SESSION + bytes([tag]) + length.to_bytes(2, "big") + bytes(length)
+
+
+def cut(message, total):
+    return (message + bytes(total))[:total]
+
+
+def set_byte(message, at, value):
+    return message[:at] + bytes([value]) + message[at + 1:]
+
+
+def take_field(message, at, tag, length):
+    """The value of the field at byte `at`, or None where the field is malformed."""
+    value = message[at + 3:at + 3 + length]
+    fits = message[at:at + 3] == bytes([tag]) + length.to_bytes(2, "big") and len(value) == length
+    return value if fits else None
+
+
+def shape_of(value):
+    return value[0], int.from_bytes(value[1:3], "big"), int.from_bytes(value[3:5], "big"), value[5]
+
+
+def shape_refusal(shape):
+    mode, m, n, l = shape
+    tests = [mode in (1, 2), 1 <= m <= 1024, n == 2 if mode == 1 else 2 <= n <= 256, 1 <= l <= 32, m * n * l <= 32768]
+    return ([number + 1 for number, ok in enumerate(tests) if not ok] + [0])[0]
+
+
+def end_refusal(message, shape, tag):
+    length = block_length(shape, tag)
+    if len(message) > 27 + length:
+        return 10, 27 + length
+    if tag == 3:
+        c = -(-shape[1] // 8)
+        for i in range(columns_of(shape[0])):
+            column = int.from_bytes(message[27 + i * c:27 + (i + 1) * c], "little")
+            if column >> shape[1]:
+                return 13, i
+    return 0, 0
+
+
+def listing(message):
+    value = take_field(message, 0, 1, 6)
+    if value is None:
+        return "refused 10 at 0"
+    shape = shape_of(value)
+    if shape_refusal(shape):
+        return "refused %d at 0" % shape_refusal(shape)
+    session = take_field(message, 9, 2, 12)
+    if session is None:
+        return "refused 10 at 9"
+    tag = message[24] if len(message) > 24 else 0
+    length = block_length(shape, tag)
+    if tag not in (3, 4) or take_field(message, 24, tag, length) is None:
+        return "refused 10 at 24"
+    code, place = end_refusal(message, shape, tag)
+    if code:
+        return "refused %d at %d" % (code, place)
+    first = "%s mode %d rows %d places %d bytes %d" % (("columns" if tag == 3 else "answers",) + shape)
+    return "%s\nsession %s\nblock %d" % (first, session.hex(), length)
+
+
+def received(own, tag, message):
+    value = take_field(message, 0, 1, 6)
+    if value is None:
+        return 10, 0
+    mine = bytes([own[0]]) + own[1].to_bytes(2, "big") + own[2].to_bytes(2, "big") + bytes([own[3]])
+    if value != mine:
+        return 11, [a == b for a, b in zip(value, mine)].index(False)
+    session = take_field(message, 9, 2, 12)
+    if session is None:
+        return 10, 9
+    if session != SESSION:
+        return 12, [a == b for a, b in zip(session, SESSION)].index(False)
+    if take_field(message, 24, tag, block_length(own, tag)) is None:
+        return 10, 24
+    return end_refusal(message, own, tag)
+
+
+PAIR = whole((1, 1, 2, 1), 4)
+NINE = whole((1, 9, 2, 1), 3)
+LISTED = [
+    ("example", set_byte(PAIR, 27, 170)),
+    ("columns of pairs", NINE),
+    ("columns of choices", whole((2, 8, 40, 5), 3)),
+    ("longest answers of pairs", whole((1, 1024, 2, 16), 4)),
+    ("longest answers of choices", whole((2, 4, 256, 32), 4)),
+    ("longest columns", whole((2, 1024, 2, 1), 3)),
+    ("mode 0", whole((0, 1, 2, 1), 4)),
+    ("mode 3", whole((3, 1, 2, 1), 4)),
+    ("rows 0", whole((1, 0, 2, 1), 4)),
+    ("rows 1025", whole((1, 1025, 2, 1), 4)),
+    ("pairs with 3 places", whole((1, 1, 3, 1), 4)),
+    ("choices with 1 place", whole((2, 1, 1, 1), 4)),
+    ("choices with 257 places", whole((2, 1, 257, 1), 4)),
+    ("bytes 0", whole((1, 1, 2, 0), 4)),
+    ("bytes 33", whole((1, 1, 2, 33), 4)),
+    ("5 rows of 256 places of 32 bytes", cut(whole((2, 5, 256, 32), 4), 27)),
+    ("1024 rows of 2 places of 17 bytes", cut(whole((1, 1024, 2, 17), 4), 27)),
+    ("mode 3 and rows 0", whole((3, 0, 2, 1), 4)),
+    ("nothing", cut(PAIR, 0)),
+    ("2 bytes", cut(PAIR, 2)),
+    ("field 1 with tag 2", set_byte(PAIR, 0, 2)),
+    ("field 1 of length 7", set_byte(PAIR, 2, 7)),
+    ("field 1 of length 262", set_byte(PAIR, 1, 1)),
+    ("8 bytes", cut(PAIR, 8)),
+    ("9 bytes", cut(PAIR, 9)),
+    ("field 2 with tag 3", set_byte(PAIR, 9, 3)),
+    ("field 2 of length 11", set_byte(PAIR, 11, 11)),
+    ("23 bytes", cut(PAIR, 23)),
+    ("24 bytes", cut(PAIR, 24)),
+    ("block with tag 5", set_byte(PAIR, 24, 5)),
+    ("answers as columns", set_byte(PAIR, 24, 3)),
+    ("block of length 3", set_byte(PAIR, 26, 3)),
+    ("block of length 258", set_byte(PAIR, 25, 1)),
+    ("one byte short", cut(PAIR, 28)),
+    ("one byte more", cut(PAIR, 30)),
+    ("one byte more than the longest", cut(whole((1, 1024, 2, 16), 4), 32796)),
+    ("columns, one byte more", cut(NINE, 284)),
+    ("padding in column 0", set_byte(NINE, 28, 2)),
+    ("padding in column 127", set_byte(NINE, 282, 128)),
+    ("padding, and one byte more", cut(set_byte(NINE, 28, 2), 284)),
+    ("row 8, and no padding", set_byte(NINE, 28, 1)),
+]
+OWN = (2, 9, 41, 3)
+COLUMNS = whole(OWN, 3)
+RECEIVED = [
+    ("columns", 3, COLUMNS),
+    ("answers", 4, whole(OWN, 4)),
+    ("answers for columns", 3, whole(OWN, 4)),
+    ("columns for answers", 4, COLUMNS),
+    ("40 places for 41", 3, whole((2, 9, 40, 3), 3)),
+    ("pairs for choices", 3, whole((1, 9, 2, 3), 3)),
+    ("265 rows for 9", 3, whole((2, 265, 41, 3), 3)),
+    ("10 rows for 9", 3, whole((2, 10, 41, 3), 3)),
+    ("4 bytes for 3", 3, whole((2, 9, 41, 4), 3)),
+    ("session, first byte", 3, set_byte(COLUMNS, 12, 1)),
+    ("session, last byte", 3, set_byte(COLUMNS, 23, 12)),
+    ("nothing", 3, cut(COLUMNS, 0)),
+    ("field 1 alone", 3, cut(COLUMNS, 9)),
+    ("no block", 3, cut(COLUMNS, 24)),
+    ("one byte short", 3, cut(COLUMNS, 538)),
+    ("one byte more", 3, cut(COLUMNS, 540)),
+    ("padding in column 255", 3, set_byte(COLUMNS, 538, 4)),
+]
+
+
+def messages():
+    example = bytes.fromhex("01000601000100020102000C000102030405060708090A0B040002AABB")
+    assert listing(example) == "answers mode 1 rows 1 places 2 bytes 1\nsession 000102030405060708090a0b\nblock 2"
+    assert listing(b"") == "refused 10 at 0"
+    for name, message in LISTED:
+        yield "list %s\n%s" % (name, listing(message))
+    for name, tag, message in RECEIVED:
+        yield "received %s %d at %d" % ((name,) + received(OWN, tag, message))
+
+
+for subject in [symmetric, words, messages]:
     for line in subject():
         print(line)

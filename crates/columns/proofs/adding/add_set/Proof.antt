@@ -17,8 +17,8 @@ use Rattle.columns.proofs.adding.add_set.Tie as tie
 -- what the guard says, where it held
 fit : (t : tie.Then1)
     → SetFit (t .before .before .before .before .before .args .seeded) (t .before .before .before .before .before .args .count)
-      (t .before .before .before .before .before .args .rows) (length (t .before .before .before .before .before .args .session .now))
-      (length (t .before .before .before .before .before .args .set .now)) (length (t .before .before .before .before .before .args .block .now))
+    (t .before .before .before .before .before .args .rows) (length (t .before .before .before .before .before .args .session .now))
+    (length (t .before .before .before .before .before .args .set .now)) (length (t .before .before .before .before .before .args .block .now))
 fit t = set-fit-passed _ _ _ _ _ _ (sym (t .before .set-fit .ensures) ∙ t .if1 .taken)
 
 add-expanded-requires : tie.Need-add-expanded-requires

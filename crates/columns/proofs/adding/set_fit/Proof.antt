@@ -28,9 +28,12 @@ mul-if4 c =
 returns-4 : tie.Need-returns-4
 returns-4 c =
     let e = c .before .before in
-    simp
-    (le-leb _ _ (e .before .before .if1 .left), le-leb _ _ (e .before .if2 .left), eq-eqb _ _ (e .if3 .left),
-    ne-eqb _ _ (λ q. c .if4 .taken (q ∙ sym (entries (c .before)))))
+    simp (
+      le-leb _ _ (e .before .before .if1 .left),
+      le-leb _ _ (e .before .if2 .left),
+      eq-eqb _ _ (e .if3 .left),
+      ne-eqb _ _ (λ q. c .if4 .taken (q ∙ sym (entries (c .before)))),
+    )
 
 mul-result : tie.Need-mul-result
 mul-result c =
@@ -40,9 +43,12 @@ mul-result c =
 returns-5 : tie.Need-returns-5
 returns-5 c =
     let e = c .before .before in
-    simp
-    (le-leb _ _ (e .before .before .if1 .left), le-leb _ _ (e .before .if2 .left), eq-eqb _ _ (e .if3 .left),
-    eq-eqb _ _ (c .if4 .left ∙ entries (c .before)))
+    simp (
+      le-leb _ _ (e .before .before .if1 .left),
+      le-leb _ _ (e .before .if2 .left),
+      eq-eqb _ _ (e .if3 .left),
+      eq-eqb _ _ (c .if4 .left ∙ entries (c .before)),
+    )
 
 pub set-fit-spec : {M : Type 1} → statement M
 set-fit-spec =
