@@ -8,7 +8,7 @@ use native.Mathlib.Omega.{arith}
 use lib.ListN.{length, getD, take, drop, length-take, length-drop, drop-of-length-le, List·getD-append, List·getD-eq-default}
 use lib.Seq.{ext-getD, getD-take, getD-drop, getD-append-add, take-all}
 use lib.Arith.{digits-lt, digits-div, digits-mod, bin-ind}
-use lib.Bits.{bitXor, bitAnd, differ, xor-step, and-step, xor-shr, xor-mod, xor-zero-r, xor-self, xor-comm, xor-lt}
+use lib.Bits.{bitXor, bitAnd, differ, xor-step, and-step, xor-shr, xor-mod, xor-zero-r, xor-zero-l, xor-self, xor-comm, xor-lt}
 use Rattle.basics.specs.Bytes.{from, build, pack, bit, bitAt, line, bitIn, lines, _⊕_, _⊙_, Bytes, over}
 
 -- ---- lists given by their elements
@@ -265,7 +265,38 @@ unfolding over
 over-whole s old e =
     ap₂ (λ (a b : List ℕ). a ++ b) (take-all (length old) s (omega arith)) (drop-of-length-le old {i = length s} (omega arith)) ∙ append-nil s
 
+-- ---- xor of strings that agree, of zeros, and in the other order
+
+pub xor-agree : (a b d : List ℕ) → ((p : ℕ) → p < length a → getD b p 0 ≡ getD d p 0) → a ⊕ b ≡ a ⊕ d
+unfolding _⊕_
+xor-agree a b d h = build-ext (length a) _ _ (λ p l. ap (bitXor (getD a p 0)) (h p l))
+
+pub zeros-xor : (n : ℕ) (a : List ℕ) → length a ≡ n → build n (λ p. 0) ⊕ a ≡ a
+unfolding _⊕_
+zeros-xor n a h =
+    build-is (length (build n (λ p. 0))) _ a (h ∙ sym (length-build n (λ p. 0)))
+    (λ p l. ap (λ (x : ℕ). bitXor x (getD a p 0)) (getD-build n (λ p. 0) p (omega (arith, length-build n (λ p. 0)))) ∙ xor-zero-l (getD a p 0))
+
+pub xor-strings-comm : (a b : List ℕ) → length a ≡ length b → a ⊕ b ≡ b ⊕ a
+unfolding _⊕_
+xor-strings-comm a b h = ap (λ (n : ℕ). build n (λ p. bitXor (getD a p 0) (getD b p 0))) h ∙ build-ext (length b) _ _ (λ p _. xor-comm (getD a p 0) (getD b p 0))
+
+-- the front of a longer string
+pub xor-front : (a b : List ℕ) → length a ≤ length b → take (length a) (b ⊕ a) ≡ a ⊕ b
+xor-front a b h =
+    ext-getD 0 _ _ (length-take (length a) (b ⊕ a) ∙ omega (arith, length-xor b a, length-xor a b))
+    (λ p l.
+    let f : p < length a = omega (arith, length-take (length a) (b ⊕ a), length-xor b a) in
+    getD-take (length a) (b ⊕ a) p 0 f ∙ getD-xor b a p (omega arith) ∙ xor-comm (getD b p 0) (getD a p 0) ∙ sym (getD-xor a b p f))
+
 -- ---- bounds of flat indices and products
+
+-- where line j of m lines of w bytes ends
+pub line-next : (w j : ℕ) → (j + 1) * w ≡ j * w + w
+line-next w j = let h = suc-mul j w in omega arith
+
+pub line-within : (m w j : ℕ) → j < m → j * w + w ≤ m * w
+line-within m w j h = let g : suc j * w ≤ m * w = mul-le-mul-right w h in let e = suc-mul j w in omega arith
 
 -- something below m · l tells that l is not zero
 pub pos-right : (p m l : ℕ) → p < m * l → 0 < l

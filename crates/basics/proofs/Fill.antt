@@ -7,12 +7,13 @@ use native.Mathlib.Nat.{add-zero, add-suc, suc-add, zero-add, lt-of-lt-of-le}
 use native.Mathlib.Numerals.{add-one}
 use native.Mathlib.Decide.{decLt}
 use native.Mathlib.Omega.{arith}
-use lib.ListN.{length, getD, take, drop, set, length-set, length-append, length-take, length-drop, drop-of-length-le}
+use lib.ListN.{length, getD, take, drop, set, length-set, length-append, length-take, length-drop, drop-of-length-le, List·getD-append, List·getD-eq-default}
 use lib.Seq.{drop-cons, drop-drop, drop-length, set-at, take-at, drop-at, getD-take, getD-drop}
 use lib.Pow.{pow-mono}
+use lib.Bits.{bitXor, xor-zero-r}
 use borrow.Rule.Slice.PartMut.{putMid}
-use Rattle.basics.specs.Bytes.{from, build, pack, over}
-use Rattle.basics.proofs.Bytes.{length-build, build-snoc, build-append, build-ext, build-is, pack-ext, pack-small}
+use Rattle.basics.specs.Bytes.{from, build, pack, over, _⊕_}
+use Rattle.basics.proofs.Bytes.{length-build, getD-build, build-snoc, build-append, build-ext, build-is, pack-ext, pack-small}
 
 -- ---- now has f's first i entries, and then what old had
 
@@ -49,6 +50,11 @@ filled-rest {f} {i} {old} {now} z p = sym (getD-drop i now p 0) ∙ ap (λ (t : 
 
 pub filled-here : {f : ℕ → ℕ} {i : ℕ} {old now : List ℕ} → Filled f i old now → getD now i 0 ≡ getD old i 0
 filled-here {f} {i} {old} {now} z = ap (λ (n : ℕ). getD now n 0) (sym (add-zero i)) ∙ filled-rest z 0 ∙ ap (λ (n : ℕ). getD old n 0) (add-zero i)
+
+-- what is filled is f's
+pub filled-new : {f : ℕ → ℕ} {i : ℕ} {old now : List ℕ} → Filled f i old now → (p : ℕ) → p < i → getD now p 0 ≡ f p
+filled-new {f} {i} {old} {now} z p h =
+    ap (λ (t : List ℕ). getD t p 0) (z .holds) ∙ List·getD-append (build i f) (drop i old) 0 p (omega (arith, length-build i f)) ∙ getD-build i f p h
 
 pub filled-end : {f : ℕ → ℕ} {i len : ℕ} {old now : List ℕ} → Filled f i old now → length old ≡ len → len ≤ i → now ≡ build len f
 filled-end {f} {i} {len} {old} {now} z hl h =
@@ -91,6 +97,18 @@ filled-copy s {old} {now} {i} z e =
     rest : Dec (length s < length old) → drop i old ≡ drop (length s) old
     rest (yes h) = let same : i ≡ length s = omega arith in ap (λ (n : ℕ). drop n old) same
     rest (no h) = drop-of-length-le old {i = i} (omega arith) ∙ sym (drop-of-length-le old {i = length s} (omega arith))
+
+-- s xored into the front of old, as far as both reach
+pub filled-xor : (s : List ℕ) {old now : List ℕ} {i : ℕ} → Filled (λ p. bitXor (getD old p 0) (getD s p 0)) i old now → i ≡ min (length s) (length old) → now ≡ old ⊕ s
+unfolding _⊕_
+filled-xor s {old} {now} {i} z e = sym (build-is (length old) _ now (z .long) (λ p h. side p h (decLt p i)))
+  where
+    side : (p : ℕ) → p < length old → Dec (p < i) → bitXor (getD old p 0) (getD s p 0) ≡ getD now p 0
+    side p h (yes l) = sym (filled-new z p l)
+    side p h (no l) =
+        let here : i + (p - i) ≡ p = omega arith in
+        ap (bitXor (getD old p 0)) (List·getD-eq-default s 0 {n = p} (omega arith)) ∙ xor-zero-r (getD old p 0)
+        ∙ sym (ap (λ (x : ℕ). getD now x 0) (sym here) ∙ filled-rest z (p - i) ∙ ap (λ (x : ℕ). getD old x 0) here)
 
 -- ---- a byte packed from its highest bit down
 

@@ -1,4 +1,3 @@
-pub mod Sizes
 pub mod Chosen
 pub mod Judged
 pub mod Prepared

@@ -2,15 +2,13 @@
 use mathlib.Core.Path.{_≡_, sym, ap, ap₂, _∙_}
 use mathlib.Core.List.{List}
 use Prim.Native.Nat.{ℕ, _+_, _-_, _*_, _/_, _%_, _≤_, _<_}
-use native.Mathlib.Nat.{mul-le-mul-right}
 use native.Mathlib.Omega.{arith}
 use lib.Arith.{digits-lt, digits-div, digits-mod}
 use lib.Bits.{bitXor}
 use lib.ListN.{length, getD, take, drop, length-take, length-drop}
 use lib.Seq.{getD-take, getD-drop, take-all}
 use Rattle.basics.specs.Bytes.{build, line, _⊕_}
-use Rattle.basics.proofs.Bytes.{build-ext}
-use Rattle.columns.proofs.Gathered.{row-next}
+use Rattle.basics.proofs.Bytes.{build-ext, line-within}
 use Rattle.words.specs.Code.{codeOf}
 use Rattle.construction.specs.Transfer.{opened}
 use Rattle.pads.specs.Pads.{padBytes}
@@ -18,15 +16,9 @@ use Rattle.buyer.specs.Open.{openedRows}
 
 -- ---- where things stand
 
--- line j of m lines of w bytes
-pub line-fits : (m w j : ℕ) → j < m → j * w + w ≤ m * w
-line-fits m w j h =
-    let next : (j + 1) * w ≤ m * w = mul-le-mul-right w (omega arith) in
-    omega (arith, row-next w j)
-
 -- the string at row j and place r
 pub string-fits : (m n l j r : ℕ) → j < m → r < n → (j * n + r) * l + l ≤ m * n * l
-string-fits m n l j r hj hr = line-fits (m * n) l (j * n + r) (digits-lt hj hr)
+string-fits m n l j r hj hr = line-within (m * n) l (j * n + r) (digits-lt hj hr)
 
 -- a part that is lent from a to a + w
 pub part-of : (s : List ℕ) (a w : ℕ) → a + w ≤ length s → length (take (a + w - a) (drop a s)) ≡ w

@@ -4,15 +4,13 @@ use mathlib.Core.Bool.{Bool, true, false}
 use mathlib.Core.List.{List, [], _++_, append-nil}
 use Prim.Native.Nat.{ℕ, _+_, _-_, _*_, _/_, _≤_, _<_}
 use native.Mathlib.Omega.{arith}
-use lib.Bits.{bitXor, xor-comm, xor-zero-l}
-use lib.ListN.{length, getD, take, drop, length-append, length-take, length-drop, drop-of-length-le}
-use lib.Seq.{ext-getD}
+use lib.ListN.{length, take, drop, length-append, length-take, length-drop, drop-of-length-le}
 use borrow.Author.Tests.{eq-eqb}
 use borrow.Rule.Slice.PartMut.{putMid}
 use Rattle.basics.specs.Choice.{pick}
 use Rattle.basics.specs.Bytes.{build, _⊕_}
 use Rattle.basics.specs.Padding.{colBytes}
-use Rattle.basics.proofs.Bytes.{length-build, getD-build, length-xor, getD-xor, xor-strings-assoc}
+use Rattle.basics.proofs.Bytes.{length-build, length-xor, xor-strings-assoc, zeros-xor, xor-strings-comm}
 use Rattle.basics.proofs.Choice.{picked}
 use Rattle.basics.proofs.Fill.{put-next}
 use Rattle.words.specs.Code.{codeOf}
@@ -20,35 +18,13 @@ use Rattle.wire.specs.Shapes.{kOf}
 use Rattle.wire.specs.Message.{header, messageOf}
 use Rattle.construction.specs.Transfer.{chosen, rows, message, kept}
 use Rattle.construction.proofs.Bytewise.{length-message}
-use Rattle.columns.specs.Sets.{expanded, columnsOf, entryBytes, setFit}
+use Rattle.columns.specs.Sets.{columnsOf, entryBytes, setFit}
 use Rattle.columns.specs.Gathered.{rowsFit}
-use Rattle.columns.proofs.Sets.{SetFit, set-fit-passed}
+use Rattle.columns.proofs.Sets.{SetFit, set-fit-passed, length-columnsOf}
 use Rattle.buyer.specs.Prepare.{columnBlock, columnMessage, keptColumns, keptRows}
-use Rattle.buyer.proofs.Sizes.{k-of, row-of}
-
--- ---- xor of strings
-
-pub zero-xor : (n : ℕ) (a : List ℕ) → length a ≡ n → build n (λ p. 0) ⊕ a ≡ a
-zero-xor n a h =
-    ext-getD 0 _ _ (length-xor (build n (λ p. 0)) a ∙ length-build n (λ p. 0) ∙ sym h)
-    (λ p l.
-    let f : p < length (build n (λ p. 0)) = omega (arith, length-xor (build n (λ p. 0)) a) in
-    getD-xor (build n (λ p. 0)) a p f ∙ ap (λ (x : ℕ). bitXor x (getD a p 0)) (getD-build n (λ p. 0) p (omega (arith, length-build n (λ p. 0)))) ∙ xor-zero-l (getD a p 0))
-
-pub xor-strings-comm : (a b : List ℕ) → length a ≡ length b → a ⊕ b ≡ b ⊕ a
-xor-strings-comm a b h =
-    ext-getD 0 _ _ (length-xor a b ∙ h ∙ sym (length-xor b a))
-    (λ p l.
-    let f : p < length a = omega (arith, length-xor a b) in
-    getD-xor a b p f ∙ xor-comm (getD a p 0) (getD b p 0) ∙ sym (getD-xor b a p (omega arith)))
+use Rattle.columns.proofs.Sizes.{k-of, row-of}
 
 -- ---- a lent set of the right length
-
-pub length-columnsOf : (seeded : Bool) (count m : ℕ) (session set : List ℕ) → length set ≡ count * entryBytes seeded m
-    → length (columnsOf seeded count m session set) ≡ count * colBytes m
-unfolding expanded
-length-columnsOf true count m session set e = length-build (count * colBytes m) _
-length-columnsOf false count m session set e = e
 
 module _ (seeded : Bool) (mode m : ℕ) (session set old : List ℕ) (h : setFit seeded (kOf mode) m (length session) (length set) (length old) ≡ true) where
   abbrev fit : SetFit seeded (kOf mode) m (length session) (length set) (length old)
@@ -69,7 +45,7 @@ module _ (seeded : Bool) (mode m : ℕ) (session set old : List ℕ) (h : setFit
   set-alone count zeros ec ez e =
       set-added count zeros ec (ap length ez ∙ length-build (length old) (λ p. 0)) e
       ∙ ap (λ (x : List ℕ). x ⊕ columnsOf seeded (kOf mode) m session set) ez
-      ∙ zero-xor (length old) (columnsOf seeded (kOf mode) m session set) (length-columnsOf seeded (kOf mode) m session set (fit .set-long) ∙ sym (fit .block-long))
+      ∙ zeros-xor (length old) (columnsOf seeded (kOf mode) m session set) (length-columnsOf seeded (kOf mode) m session set (fit .set-long) ∙ sym (fit .block-long))
 
   pub set-long : length (columnsOf seeded (kOf mode) m session set) ≡ kOf mode * colBytes m
   set-long = length-columnsOf seeded (kOf mode) m session set (fit .set-long)

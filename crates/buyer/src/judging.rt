@@ -1,16 +1,15 @@
 // What prepare and open refuse by their lent buffers (document 01, section 7): lengths (6, 7), a selection that is n or more (8), and padding (9).
 ghost use mathlib.Core.Path.{_≡_};
-ghost use Prim.Native.Nat.{_≤_};
 ghost use lib.ListN.{length};
 ghost use Rattle.basics.specs.First.{firstAt};
 ghost use Rattle.wire.specs.Shapes.{kOf};
-ghost use Rattle.columns.specs.Sets.{entryBytes};
 ghost use Rattle.buyer.specs.Selections.{tooLarge, selectionsVerdict};
 ghost use Rattle.buyer.specs.Prepare.{prepareLengths, setsPadding, prepareVerdict};
 ghost use Rattle.buyer.specs.Open.{openLengths, openVerdict};
 use basics::Verdict;
 use basics::refuse_padded;
 use basics::refuse_unless;
+use columns::entry_bytes;
 use wire::Shape;
 use wire::check_received;
 use wire::column_bytes;
@@ -19,24 +18,11 @@ use wire::judge_shape;
 
 const SESSION_BYTES: usize = 12;
 
-const SEED_BYTES: usize = 32;
-
 // Where a message's block begins.
 const BLOCK_AT: usize = 27;
 
 // Masked strings.
 const TAG_STRINGS: u8 = 4;
-
-// The bytes that stand for one column in a lent set.
-fn entry_bytes(seeded: bool, rows: u16) -> usize
-    ensures { λ r. ⌜ (r ≡ entryBytes seeded rows) × (r ≤ 8192) ⌝ }
-{
-    if seeded {
-        SEED_BYTES
-    } else {
-        column_bytes(rows)
-    }
-}
 
 // Refusals 6 and 7 of prepare.
 fn judge_lengths(

@@ -7,29 +7,18 @@ ghost use Rattle.pads.specs.Pads.{padBytes};
 ghost use Rattle.buyer.specs.Open.{OpenFits, openedRows, Opened};
 use crate::judging::judge_open;
 use basics::Verdict;
+use basics::copy;
 use columns::row_bytes;
-use pads::pad;
+use pads::mask;
 use wire::Shape;
-
-// Xors src over out.
-fn xor_over(src: &[u8], out: &mut [u8])
-    requires { ⌜ length (now out) ≡ length (now src) ⌝ }
-    ensures { λ _. ⌜ now (out .exit) ≡ now (src .entry) ⊕ now (out .entry) ⌝ }
-{
-    let mut p = 0;
-    while p < out.len() {
-        out[p] = src[p] ^ out[p];
-        p += 1;
-    }
-}
 
 // One row opened from its masked string.
 fn open_row(session: &[u8], j: u32, row: &[u8], string: &[u8], out: &mut [u8])
     requires { ⌜ (length (now session) ≡ 12) × (length (now row) ≤ 32) × (length (now out) ≤ 32) × (length (now out) ≡ length (now string)) ⌝ }
     ensures { λ _. ⌜ now (out .exit) ≡ now (string .entry) ⊕ padBytes (now (session .entry)) (length (now (out .entry))) j (now (row .entry)) ⌝ }
 {
-    pad(session, j, row, out);
-    xor_over(string, out);
+    copy(string, out);
+    mask(session, j, row, out);
 }
 
 // Where the string at row j and place r begins.

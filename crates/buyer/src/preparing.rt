@@ -5,7 +5,6 @@ ghost use mathlib.Core.Bool.{true};
 ghost use mathlib.Core.List.{_++_};
 ghost use Prim.Native.Nat.{_-_, _*_, _/_, _≤_, _<_};
 ghost use lib.ListN.{length, drop};
-ghost use Rattle.basics.specs.Bytes.{build};
 ghost use Rattle.wire.specs.Shapes.{kOf};
 ghost use Rattle.wire.specs.Message.{header};
 ghost use Rattle.columns.specs.Sets.{setFit};
@@ -13,6 +12,7 @@ ghost use Rattle.buyer.specs.Prepare.{keptColumns, columnBlock, keptRows
 use crate::choosing::add_chosen;
 use crate::judging::judge_prepare;
 use basics::Verdict;
+use basics::clear;
 use columns::add_set;
 use columns::gather_rows;
 use wire::Shape;
@@ -20,17 +20,6 @@ use wire::columns_of;
 use wire::write_header;
 
 const TAG_COLUMNS: u8 = 3;
-
-// Sets every byte to 0.
-fn clear(block: &mut [u8])
-    ensures { λ _. ⌜ now (block .exit) ≡ build (length (now (block .entry))) (λ p. 0) ⌝ }
-{
-    let mut p = 0;
-    while p < block.len() {
-        block[p] = 0;
-        p += 1;
-    }
-}
 
 // Puts the second set's columns xor D into a block: their rows are the kept rows.
 fn put_second(

@@ -14,15 +14,16 @@ use borrow.Author.Tests.{eq-eqb, le-leb, eqb-true, leb-true}
 use borrow.Rule.Slice.PartMut.{putMid}
 use Rattle.basics.specs.declared.Verdict.{Verdict}
 use Rattle.basics.specs.Choice.{pick}
-use Rattle.basics.specs.Bytes.{build, line, _⊕_, Bytes}
-use Rattle.basics.specs.Padding.{colBytes}
-use Rattle.basics.specs.Verdicts.{pass, unless, Gives}
+use Rattle.basics.specs.Bytes.{build, bit, line, _⊕_, Bytes}
+use Rattle.basics.specs.Padding.{colBytes, padded, Clear}
+use Rattle.basics.specs.Verdicts.{pass, unless, atFirst, Gives}
 use Rattle.basics.proofs.Choice.{both}
-use Rattle.basics.proofs.Bytes.{getD-build, build-ext, append-bytes}
+use Rattle.basics.proofs.Bytes.{length-build, getD-build, build-ext, append-bytes}
 use Rattle.basics.proofs.Fill.{Filled, filled-rest, put-next}
-use Rattle.basics.proofs.Verdicts.{gives-passed}
+use Rattle.basics.proofs.Padding.{clear-padded}
+use Rattle.basics.proofs.Verdicts.{gives-passed, atFirst-none}
 use Rattle.construction.specs.Transfer.{cleared, columnOf}
-use Rattle.construction.proofs.Bytewise.{cleared-last, cleared-whole}
+use Rattle.construction.proofs.Bytewise.{cleared-last, cleared-whole, columnOf-clear}
 use Rattle.symmetric.specs.ChaCha.{chacha20}
 use Rattle.symmetric.specs.Calls.{blockVerdict}
 use Rattle.symmetric.proofs.Facts.{length-chacha20, chacha20-bytes}
@@ -91,12 +92,6 @@ column-in m c v key nonce work h0 h1 hc =
     → (p : ℕ) → p < n → getD (set work (n - 1) v) p 0 ≡ getD (seedColumn nonce m key) p 0)
     (sym hc) (column-at m v key nonce work h0 h1)
 
--- ---- xor with a string that agrees as far as the first reaches
-
-pub xor-agree : (a b d : List ℕ) → ((p : ℕ) → p < length a → getD b p 0 ≡ getD d p 0) → a ⊕ b ≡ a ⊕ d
-unfolding _⊕_
-xor-agree a b d h = build-ext (length a) _ _ (λ p l. ap (bitXor (getD a p 0)) (h p l))
-
 -- ---- one column after the other
 
 -- byte p of the block with the columns of all seeds in it
@@ -128,6 +123,35 @@ unfolding _⊕_ expanded
 added-all count m session seeds old h =
     build-ext (count * colBytes m) _ _ (λ p l. ap (bitXor (getD old p 0)) (sym (getD-build (count * colBytes m) _ p l)))
     ∙ ap (λ (n : ℕ). build n (λ p. bitXor (getD old p 0) (getD (expanded count m session seeds) p 0))) (sym h)
+
+-- ---- the columns that a set stands for: their length, and that expanded ones have no padding
+
+length-expanded : (count m : ℕ) (session seeds : List ℕ) → length (expanded count m session seeds) ≡ count * colBytes m
+unfolding expanded
+length-expanded count m session seeds = length-build (count * colBytes m) _
+
+pub length-columnsOf : (seeded : Bool) (count m : ℕ) (session set : List ℕ) → length set ≡ count * entryBytes seeded m → length (columnsOf seeded count m session set) ≡ count * colBytes m
+length-columnsOf true count m session set h = length-expanded count m session set
+length-columnsOf false count m session set h = h
+
+expanded-clear : (count m : ℕ) (session seeds : List ℕ) (i : ℕ) → i < count → Clear m (expanded count m session seeds) i
+unfolding expanded
+expanded-clear count m session seeds i hi j hm hj =
+    let hb : j / 8 < colBytes m = omega arith in
+    ap (λ (x : ℕ). bit x (j % 8))
+    (getD-build (count * colBytes m) _ (i * colBytes m + j / 8) (digits-lt hi hb)
+    ∙ ap₂ (λ (x y : ℕ). getD (seedColumn session m (line 32 seeds x)) y 0) (digits-div i hb) (digits-mod i hb))
+    ∙ columnOf-clear chacha20 session m (line 32 seeds i) j hm hj
+
+-- as handed-in columns they get no refusal 9
+pub expanded-passes : (count m base : ℕ) (session seeds : List ℕ) → atFirst count (padded m (expanded count m session seeds)) 9 base ≡ pass
+expanded-passes count m base session seeds =
+    atFirst-none count (padded m (expanded count m session seeds)) 9 base
+    (λ i h. clear-padded m (expanded count m session seeds) i (expanded-clear count m session seeds i h))
+
+-- their length is that of handed-in columns where the seeds' was that of seeds
+pub expanded-fits : (count m : ℕ) (session seeds : List ℕ) → length seeds ≡ count * 32 → eqb (length seeds) (count * 32) ≡ eqb (length (expanded count m session seeds)) (count * colBytes m)
+expanded-fits count m session seeds h = eq-eqb _ _ h ∙ sym (eq-eqb _ _ (length-expanded count m session seeds))
 
 -- ---- what the guard says
 

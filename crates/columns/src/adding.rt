@@ -7,23 +7,13 @@ ghost use Rattle.basics.specs.Choice.{pick};
 ghost use Rattle.basics.specs.Bytes.{_⊕_};
 ghost use Rattle.basics.specs.Padding.{colBytes};
 ghost use Rattle.symmetric.specs.ChaCha.{chacha20};
-ghost use Rattle.columns.specs.Sets.{seedColumn, expanded, columnsOf, setFit};
+ghost use Rattle.columns.specs.Sets.{seedColumn, expanded, columnsOf, entryBytes, setFit};
 use basics::wide;
+use basics::xor_into;
+use wire::column_bytes;
 
 // A seed's bytes.
 const SEED: usize = 32;
-
-// Xors src into out, which is no longer.
-fn xor_into(src: &[u8], out: &mut [u8])
-    requires { ⌜ length (now out) ≤ length (now src) ⌝ }
-    ensures { λ _. ⌜ now (out .exit) ≡ now (out .entry) ⊕ now (src .entry) ⌝ }
-{
-    let mut p = 0;
-    while p < out.len() {
-        out[p] = out[p] ^ src[p];
-        p += 1;
-    }
-}
 
 // The first c bytes of a seed's keystream, into a workspace of 128 bytes. The second block is worked out only where c reaches it.
 fn keystream(c: usize, session: &[u8], seed: &[u8], work: &mut [u8])
@@ -90,44 +80,47 @@ fn add_expanded(count: usize, m: usize, c: usize, session: &[u8], seeds: &[u8], 
     }
 }
 
-// The bytes that stand for one column of c bytes in a lent set.
-fn entry_bytes(seeded: bool, c: usize) -> usize
-    requires { ⌜ c ≤ 128 ⌝ }
-    ensures { λ r. ⌜ (r ≡ pick seeded 32 c) × (r ≤ 128) ⌝ }
+// The bytes that stand for one column in a lent set.
+pub fn entry_bytes(seeded: bool, rows: u16) -> usize
+    ensures { λ r. ⌜ (r ≡ entryBytes seeded rows) × (r ≤ 8192) ⌝ }
 {
-    if seeded { SEED } else { c }
+    if seeded { SEED } else { column_bytes(rows) }
 }
 
 // A session of 12 bytes, a set of `count` entries, and a block of as many columns of 1 to 1,024 rows.
-fn set_fit(seeded: bool, count: usize, m: usize, session: usize, set: usize, block: usize) -> bool
-    requires { ⌜ (count < 65536) × (m < 65536) ⌝ }
-    ensures { λ r. ⌜ r ≡ setFit seeded count m session set block ⌝ }
+fn set_fit(seeded: bool, count: u16, rows: u16, session: usize, set: usize, block: usize) -> bool
+    ensures { λ r. ⌜ r ≡ setFit seeded count rows session set block ⌝ }
 {
-    if m < 1 {
+    if rows < 1 {
         return false;
     }
-    if 1024 < m {
+    if 1024 < rows {
         return false;
     }
     if session != 12 {
         return false;
     }
-    let c = (m + 7) / 8;
-    if set != count * entry_bytes(seeded, c) {
+    let k = count as usize;
+    if set != k * entry_bytes(seeded, rows) {
         return false;
     }
-    block == count * c
+    block == k * column_bytes(rows)
 }
 
 // Xors the columns of a lent set into a block; nothing where the lengths do not fit.
 pub fn add_set(seeded: bool, count: u16, rows: u16, session: &[u8], set: &[u8], block: &mut [u8])
     ensures { λ _. ⌜ now (block .exit) ≡ pick (setFit seeded count rows (length (now (session .entry))) (length (now (set .entry))) (length (now (block .entry)))) (now (block .entry) ⊕ columnsOf seeded count rows (now (session .entry)) (now (set .entry))) (now (block .entry)) ⌝ }
 {
-    let k = count as usize;
-    let m = rows as usize;
-    if set_fit(seeded, k, m, session.len(), set.len(), block.len()) {
+    if set_fit(seeded, count, rows, session.len(), set.len(), block.len()) {
         if seeded {
-            add_expanded(k, m, (m + 7) / 8, session, set, block);
+            add_expanded(
+                count as usize,
+                rows as usize,
+                column_bytes(rows),
+                session,
+                set,
+                block,
+            );
         } else {
             xor_into(set, block);
         }

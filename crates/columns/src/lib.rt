@@ -3,6 +3,7 @@ mod adding;
 mod rows;
 
 pub use adding::add_set;
+pub use adding::entry_bytes;
 pub use rows::gather_eight;
 pub use rows::gather_rows;
 pub use rows::row_bytes;

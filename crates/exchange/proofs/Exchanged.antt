@@ -15,7 +15,7 @@ use Rattle.columns.specs.Sets.{columnsOf}
 use Rattle.wire.specs.Shapes.{kOf}
 use Rattle.buyer.specs.Prepare.{Prepared}
 use Rattle.buyer.specs.Open.{Opened}
-use Rattle.buyer.proofs.Sizes.{k-of}
+use Rattle.columns.proofs.Sizes.{k-of}
 use Rattle.supplier.specs.Answer.{Answered}
 use Rattle.outside.specs.Taken.{takenSet}
 use Rattle.outside.proofs.Taken.{length-takenSet, takenSet-select}

@@ -1,19 +1,19 @@
 -- Laws of pads: their length, and how the hashed bytes are put together. Assumes nothing.
 use mathlib.Core.Path.{_≡_, refl, sym, ap, ap₂, _∙_}
 use mathlib.Core.Bool.{Bool, true, _&&_}
-use mathlib.Core.List.{List, [], _∷_, _++_, append-assoc, append-nil}
+use mathlib.Core.List.{List, [], _∷_, _++_, append-assoc}
 use Prim.Native.Nat.{ℕ, _+_, _-_, _≤_}
 use native.Mathlib.Nat.{sub-zero}
 use native.Mathlib.Omega.{arith}
-use lib.ListN.{length, take, drop, length-append, length-drop, drop-of-length-le}
-use lib.Seq.{take-at, take-all}
+use lib.ListN.{length, take, drop, length-append}
+use lib.Seq.{take-at, take-all, getD-take}
 use lib.Dec.{eqb, leb}
 use borrow.Author.Tests.{eqb-true, leb-true, eq-eqb, le-leb}
 use borrow.Rule.Slice.PartMut.{putMid}
 use Rattle.basics.specs.Choice.{pick}
-use Rattle.basics.specs.Bytes.{Bytes, be32, over}
+use Rattle.basics.specs.Bytes.{Bytes, be32, over, _⊕_}
 use Rattle.basics.proofs.Choice.{both, picked}
-use Rattle.basics.proofs.Bytes.{over-whole}
+use Rattle.basics.proofs.Bytes.{over-whole, xor-agree}
 use Rattle.basics.proofs.Fill.{put-next}
 use Rattle.basics.specs.declared.Verdict.{Verdict}
 use Rattle.basics.specs.Verdicts.{unless, Gives}
@@ -23,7 +23,7 @@ use Rattle.construction.specs.Transfer.{padOf}
 use Rattle.construction.proofs.Bytewise.{length-padOf, padOf-bytes}
 use Rattle.symmetric.specs.Sha.{sha256}
 use Rattle.symmetric.proofs.Facts.{length-sha256, sha256-bytes}
-use Rattle.pads.specs.Pads.{padBytes, padFit, padWritten}
+use Rattle.pads.specs.Pads.{padBytes, padFit, padMasked}
 
 -- ---- the pad
 
@@ -53,10 +53,17 @@ pub pad-fit-holds : (session row l : ℕ) → session ≡ 12 → row ≤ 32 → 
 pad-fit-holds session row l a b c = simp (eq-eqb session 12 a, le-leb row 32 b, le-leb l 32 c)
 
 -- what a caller learns where the lengths fit
-pub padWritten-fit : (session : List ℕ) (j : ℕ) (row old : List ℕ) → length session ≡ 12 → length row ≤ 32 → length old ≤ 32
-    → padWritten session j row old ≡ padBytes session (length old) j row
-unfolding padWritten
-padWritten-fit session j row old a b c = picked _ _ (pad-fit-holds (length session) (length row) (length old) a b c)
+pub padMasked-fit : (session : List ℕ) (j : ℕ) (row string : List ℕ) → length session ≡ 12 → length row ≤ 32 → length string ≤ 32
+    → padMasked session j row string ≡ string ⊕ padBytes session (length string) j row
+unfolding padMasked
+padMasked-fit session j row string a b c = picked _ _ (pad-fit-holds (length session) (length row) (length string) a b c)
+
+-- the bytes of a longer pad beyond the string play no part
+pub pad-front : (session : List ℕ) (j : ℕ) (row string : List ℕ) → length string ≤ 32 → string ⊕ padBytes session 32 j row ≡ string ⊕ padBytes session (length string) j row
+unfolding padBytes padOf
+pad-front session j row string h =
+    xor-agree string _ _
+    (λ p l. getD-take 32 (sha256 (session ++ be32 j ++ row)) p 0 (omega arith) ∙ sym (getD-take (length string) (sha256 (session ++ be32 j ++ row)) p 0 l))
 
 -- ---- the hashed bytes, put together from three parts of 48 bytes
 
@@ -80,7 +87,7 @@ three-parts d s n r p q t {x} {y} {z} ex ey ez hs hn hr hp hq ht =
     rest : List ℕ
     rest = drop 32 (drop 4 (drop 12 d))
 
--- ---- the digest, and its front copied into a lent part of at most 32 bytes
+-- ---- the digest
 
 -- the hash never refuses so few bytes
 pub hash-passed : {n : ℕ} {new old now : List ℕ} {r : Verdict} → Gives (hashVerdict n 32) new old r now → n ≤ 65535 → now ≡ new
@@ -88,11 +95,9 @@ unfolding hashVerdict unless
 hash-passed {n} g h = gives-passed g (ap (λ (v : Verdict). v .code) (g .verdict) ∙ rw (le-leb n 65535 h))
 
 -- digest is that of the first e of the bytes s, lent from byte 0 on
-pub pad-copied : (session : List ℕ) (j : ℕ) (row old : List ℕ) (e : ℕ) (s : List ℕ) {digest : List ℕ} → take e s ≡ session ++ be32 j ++ row → digest ≡ sha256 (take (e - 0) s)
-    → length old ≤ 32 → over digest old ≡ padBytes session (length old) j row
-unfolding over padBytes padOf
-pad-copied session j row old e s {digest} hi hd h =
-    let is : digest ≡ sha256 (session ++ be32 j ++ row) = hd ∙ ap (λ (x : ℕ). sha256 (take x s)) (sub-zero e) ∙ ap sha256 hi in
-    let long : length digest ≡ 32 = ap length is ∙ length-sha256 (session ++ be32 j ++ row) in
-    ap (λ (x : List ℕ). take (length old) digest ++ x) (drop-of-length-le old {i = length digest} (omega arith))
-    ∙ append-nil (take (length old) digest) ∙ ap (take (length old)) is
+pub pad-digest : (session : List ℕ) (j : ℕ) (row : List ℕ) (e : ℕ) (s : List ℕ) {digest : List ℕ} → take e s ≡ session ++ be32 j ++ row → digest ≡ sha256 (take (e - 0) s)
+    → digest ≡ padBytes session 32 j row
+unfolding padBytes padOf
+pad-digest session j row e s {digest} hi hd =
+    hd ∙ ap (λ (x : ℕ). sha256 (take x s)) (sub-zero e) ∙ ap sha256 hi
+    ∙ sym (take-all 32 (sha256 (session ++ be32 j ++ row)) (omega (arith, length-sha256 (session ++ be32 j ++ row))))

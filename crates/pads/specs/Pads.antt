@@ -6,6 +6,7 @@ use Prim.Native.Nat.{ℕ}
 use lib.Dec.{eqb, leb}
 use lib.ListN.{length}
 use Rattle.basics.specs.Choice.{pick}
+use Rattle.basics.specs.Bytes.{_⊕_}
 use Rattle.construction.specs.Transfer.{padOf}
 use Rattle.symmetric.specs.Sha.{sha256}
 
@@ -13,10 +14,10 @@ use Rattle.symmetric.specs.Sha.{sha256}
 unfoldable pub padBytes : List ℕ → ℕ → ℕ → List ℕ → List ℕ
 padBytes session l j row = padOf sha256 session l j row
 
--- by their lengths: a session, a row of at most 32 bytes, and room for at most 32 bytes of a pad
+-- by their lengths: a session, a row of at most 32 bytes, and a string of at most 32 bytes
 abbrev pub padFit : ℕ → ℕ → ℕ → Bool
 padFit session row l = eqb session 12 && (leb row 32 && leb l 32)
 
--- what a lent part that held `old` holds then: its length of the pad, and what it held where the lengths do not fit
-unfoldable pub padWritten : List ℕ → ℕ → List ℕ → List ℕ → List ℕ
-padWritten session j row old = pick (padFit (length session) (length row) (length old)) (padBytes session (length old) j row) old
+-- a string with its pad xored over it, and as it was where the lengths do not fit
+unfoldable pub padMasked : List ℕ → ℕ → List ℕ → List ℕ → List ℕ
+padMasked session j row string = pick (padFit (length session) (length row) (length string)) (string ⊕ padBytes session (length string) j row) string

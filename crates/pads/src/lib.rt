@@ -4,8 +4,9 @@ ghost use mathlib.Core.List.{_++_};
 ghost use Prim.Native.Nat.{_+_, _≤_};
 ghost use lib.ListN.{length, take};
 ghost use Rattle.basics.specs.Bytes.{be32};
-ghost use Rattle.pads.specs.Pads.{padFit, padWritten};
+ghost use Rattle.pads.specs.Pads.{padBytes, padFit, padMasked};
 use basics::copy;
+use basics::xor_into;
 use symmetric::hash;
 
 const SESSION_BYTES: usize = 12;
@@ -14,11 +15,11 @@ const MOST_ROW: usize = 32;
 
 const DIGEST_BYTES: usize = 32;
 
-// A session, a row of at most 32 bytes, and room for at most 32 bytes.
-fn pad_fit(session: usize, row: usize, out: usize) -> bool
-    ensures { λ r. ⌜ r ≡ padFit session row out ⌝ }
+// A session, a row of at most 32 bytes, and a string of at most 32 bytes.
+fn pad_fit(session: usize, row: usize, string: usize) -> bool
+    ensures { λ r. ⌜ r ≡ padFit session row string ⌝ }
 {
-    session == SESSION_BYTES && (row <= MOST_ROW && out <= DIGEST_BYTES)
+    session == SESSION_BYTES && (row <= MOST_ROW && string <= DIGEST_BYTES)
 }
 
 // Puts the bytes that are hashed into the front of 48 bytes: session, j as four bytes big-endian, row.
@@ -37,16 +38,25 @@ fn put_input(session: &[u8], j: u32, row: &[u8], input: &mut [u8])
     copy(row, &mut input[16..48]);
 }
 
-// Writes as many bytes of the pad of (j, row) as `out` holds. Lengths that do not fit leave it as it is.
-pub fn pad(session: &[u8], j: u32, row: &[u8], out: &mut [u8])
-    ensures { λ _. ⌜ now (out .exit) ≡ padWritten (now (session .entry)) j (now (row .entry)) (now (out .entry)) ⌝ }
+// The pad of (j, row), all the bytes that a digest has.
+fn pad(session: &[u8], j: u32, row: &[u8]) -> [u8; 32]
+    requires { ⌜ (length (now session) ≡ 12) × (length (now row) ≤ 32) ⌝ }
+    ensures { λ r. ⌜ r ≡ padBytes (now (session .entry)) 32 j (now (row .entry)) ⌝ }
 {
-    if pad_fit(session.len(), row.len(), out.len()) {
-        let mut input = [0u8; 48];
-        put_input(session, j, row, &mut input);
-        let end = 16 + row.len();
-        let mut digest = [0u8; 32];
-        hash(&input[0..end], &mut digest);
-        copy(&digest, out);
+    let mut input = [0u8; 48];
+    put_input(session, j, row, &mut input);
+    let end = 16 + row.len();
+    let mut digest = [0u8; 32];
+    hash(&input[0..end], &mut digest);
+    digest
+}
+
+// Xors the pad of (j, row) over a string, which masks it or opens it. Lengths that do not fit leave the string as it is.
+pub fn mask(session: &[u8], j: u32, row: &[u8], string: &mut [u8])
+    ensures { λ _. ⌜ now (string .exit) ≡ padMasked (now (session .entry)) j (now (row .entry)) (now (string .entry)) ⌝ }
+{
+    if pad_fit(session.len(), row.len(), string.len()) {
+        let bytes = pad(session, j, row);
+        xor_into(&bytes, string);
     }
 }

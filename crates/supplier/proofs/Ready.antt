@@ -17,10 +17,10 @@ use Rattle.wire.specs.Message.{blockAt}
 use Rattle.wire.proofs.Shapes.{Passes, shape-ok}
 use Rattle.wire.proofs.Received.{received-ok}
 use Rattle.columns.specs.Sets.{entryBytes}
+use Rattle.columns.proofs.Sizes.{k-of, row-of}
 use Rattle.supplier.specs.Answer.{answerLengths, answerVerdict}
 use Rattle.supplier.specs.Taking.{TakeFit}
 use Rattle.supplier.specs.Masking.{MaskFit}
-use Rattle.supplier.proofs.Mode.{kOf-code, kOf-width}
 
 -- refusals 6 and 7 passed
 pub record Lengths (seeded : Bool) (mode m n l session secret taken strings message : ℕ) : Type 0 where
@@ -75,21 +75,20 @@ module _ (seeded : Bool) (mode m n l : ℕ) (session secret taken strings receiv
     some = z .shape .rows-some;
     few = z .shape .rows-few;
     session-long = z .lengths .session-long;
-    secret-long = z .lengths .secret-long ∙ kOf-width mode;
-    taken-long = z .lengths .taken-long ∙ ap (λ (x : ℕ). x * entryBytes seeded m) (kOf-code mode) ∙ mul-assoc (codeOf mode .width) 8 (entryBytes seeded m);
-    block-long = hb ∙ ap (λ (x : ℕ). x * colBytes m) (kOf-code mode) ∙ mul-assoc (codeOf mode .width) 8 (colBytes m);
+    secret-long = z .lengths .secret-long ∙ row-of mode;
+    taken-long = z .lengths .taken-long ∙ ap (λ (x : ℕ). x * entryBytes seeded m) (k-of mode) ∙ mul-assoc (codeOf mode .width) 8 (entryBytes seeded m);
+    block-long = hb ∙ ap (λ (x : ℕ). x * colBytes m) (k-of mode) ∙ mul-assoc (codeOf mode .width) 8 (colBytes m);
     rows-long = hr;
   }
 
-  pub ready-mask : Ready seeded mode m n l session secret taken strings received message → (rows out : ℕ) → rows ≡ m * codeOf mode .width → out ≡ m * n * l
-      → MaskFit mode m n l (length session) (length secret) rows (length strings) out
-  ready-mask z rows out hr ho = record {
+  pub ready-mask : Ready seeded mode m n l session secret taken strings received message → (rows : ℕ) → rows ≡ m * codeOf mode .width
+      → MaskFit mode m n l (length session) (length secret) rows (length strings)
+  ready-mask z rows hr = record {
     rows-few = z .shape .rows-few;
     places-few = z .shape .places-few;
     bytes-few = z .shape .bytes-few;
     session-long = z .lengths .session-long;
-    secret-long = z .lengths .secret-long ∙ kOf-width mode;
+    secret-long = z .lengths .secret-long ∙ row-of mode;
     rows-long = hr;
     strings-long = z .lengths .strings-long;
-    out-long = ho;
   }

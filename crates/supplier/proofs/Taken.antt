@@ -14,18 +14,17 @@ use borrow.Rule.Slice.PartMut.{putMid}
 use Rattle.basics.specs.Choice.{pick, byBit}
 use Rattle.basics.specs.Bytes.{build, bit, bitAt, line, _⊕_, Bytes}
 use Rattle.basics.specs.Padding.{colBytes}
-use Rattle.basics.proofs.Bytes.{length-build, getD-build, build-is, build-ext, bit-small, getD-line, pos-right}
+use Rattle.basics.proofs.Bytes.{length-build, getD-build, build-is, build-ext, bit-small, getD-line, pos-right, zeros-xor, line-within}
 use Rattle.basics.proofs.Choice.{picked}
 use Rattle.basics.proofs.Fill.{Filled, filled-rest}
 use Rattle.words.specs.Code.{Code, k, codeOf}
 use Rattle.construction.specs.Transfer.{select, taking}
 use Rattle.construction.proofs.Bytewise.{length-select, taken-byte}
 use Rattle.columns.specs.Sets.{seedColumn, expanded, columnsOf, entryBytes, setFit}
-use Rattle.columns.proofs.Sets.{SetFit, set-fit-holds}
+use Rattle.columns.proofs.Sets.{SetFit, set-fit-holds, length-columnsOf}
+use Rattle.columns.proofs.Sizes.{k-of}
 use Rattle.supplier.specs.Taking.{ownEight}
 use Rattle.supplier.specs.Answer.{takenRows}
-use Rattle.supplier.proofs.Mode.{kOf-code}
-use Rattle.supplier.proofs.Masked.{row-within}
 
 -- ---- the mask: all ones where the bit is 0, and nothing where it is 1
 
@@ -64,42 +63,17 @@ pub length-own : (c bits : ℕ) (block taken : List ℕ) → length (ownEight c 
 unfolding ownEight
 length-own c bits block taken = length-build (8 * c) _
 
-pub next-column : (e c : ℕ) → (e + 1) * c ≡ e * c + c
-next-column e c = let h = suc-mul e c in omega arith
-
--- column e of eight ends within them
-pub column-within : (e c : ℕ) → e < 8 → e * c + c ≤ 8 * c
-column-within e c h = let g : suc e * c ≤ 8 * c = mul-le-mul-right c h in let k = suc-mul e c in omega arith
-
--- ---- a workspace of zeros
-
-pub zeros-xor : (z s : List ℕ) → length z ≡ length s → ((p : ℕ) → p < length z → getD z p 0 ≡ 0) → z ⊕ s ≡ s
-unfolding _⊕_
-zeros-xor z s e h = build-is (length z) _ s (sym e) (λ p l. ap (λ (x : ℕ). bitXor x (getD s p 0)) (h p l))
-
--- a part of the workspace
-pub zeros-part : (n p : ℕ) {work : List ℕ} → work ≡ replicate 1024 0 → getD (take n (drop 0 work)) p 0 ≡ 0
-zeros-part n p {work} e = side (decLt p n) (decLt p 1024)
-  where
-    side : Dec (p < n) → Dec (p < 1024) → getD (take n work) p 0 ≡ 0
-    side (yes h) (yes l) = getD-take n work p 0 h ∙ ap (λ (s : List ℕ). getD s p 0) e ∙ getD-replicate 1024 p 0 0 l
-    side (yes h) (no l) = getD-take n work p 0 h ∙ ap (λ (s : List ℕ). getD s p 0) e ∙ List·getD-eq-default (replicate 1024 0) 0 {n = p} (omega (arith, length-replicate {A = ℕ} 1024 0))
-    side (no h) d = List·getD-eq-default (take n work) 0 {n = p} (rw length-take (omega arith))
-
 -- ---- eight entries of a set, and the columns they stand for
 
-pub length-columnsOf : (seeded : Bool) (count m : ℕ) (session set : List ℕ) → length set ≡ count * entryBytes seeded m → length (columnsOf seeded count m session set) ≡ count * colBytes m
-unfolding expanded
-length-columnsOf true count m session set h = length-build (count * colBytes m) _
-length-columnsOf false count m session set h = h
-
 -- eight entries added to zeros are their columns
-pub zeros-added : (seeded : Bool) (m : ℕ) (session taken old : List ℕ) {now : List ℕ}
-    → now ≡ pick (setFit seeded 8 m (length session) (length taken) (length old)) (old ⊕ columnsOf seeded 8 m session taken) old
-    → SetFit seeded 8 m (length session) (length taken) (length old) → ((p : ℕ) → getD old p 0 ≡ 0) → now ≡ columnsOf seeded 8 m session taken
-zeros-added seeded m session taken old e f z =
-    e ∙ picked (old ⊕ columnsOf seeded 8 m session taken) old (set-fit-holds seeded 8 m (length session) (length taken) (length old) f)
-    ∙ zeros-xor old (columnsOf seeded 8 m session taken) (f .block-long ∙ sym (length-columnsOf seeded 8 m session taken (f .set-long))) (λ p _. z p)
+pub zeros-added : (seeded : Bool) (m : ℕ) (session taken zeros old : List ℕ) {now : List ℕ} → zeros ≡ build (length old) (λ p. 0)
+    → now ≡ pick (setFit seeded 8 m (length session) (length taken) (length zeros)) (zeros ⊕ columnsOf seeded 8 m session taken) zeros
+    → SetFit seeded 8 m (length session) (length taken) (length old) → now ≡ columnsOf seeded 8 m session taken
+zeros-added seeded m session taken zeros old ez e f =
+    let long : length zeros ≡ length old = ap length ez ∙ length-build (length old) _ in
+    e ∙ picked _ _ (ap (setFit seeded 8 m (length session) (length taken)) long ∙ set-fit-holds seeded 8 m (length session) (length taken) (length old) f)
+    ∙ ap (λ (z : List ℕ). z ⊕ columnsOf seeded 8 m session taken) ez
+    ∙ zeros-xor (length old) (columnsOf seeded 8 m session taken) (length-columnsOf seeded 8 m session taken (f .set-long) ∙ sym (f .block-long))
 
 -- byte p from column 8g on stands in column 8g + p div c, of which p div c is below 8
 record ColumnPlace (m g p : ℕ) : Type 0 where
@@ -190,7 +164,7 @@ module _ (C : Code) (seeded : Bool) (m : ℕ) (session secret block taken : List
       long : length (take (8 * colBytes m) (drop (g * (8 * colBytes m)) supplied)) ≡ 8 * colBytes m
       long =
           let whole = length-select C (colBytes m) secret (block ⊕ columnsOf seeded (k C) m session taken) (columnsOf seeded (k C) m session taken) in
-          let room : g * (8 * colBytes m) + 8 * colBytes m ≤ C .width * (8 * colBytes m) = row-within (C .width) (8 * colBytes m) g hg in
+          let room : g * (8 * colBytes m) + 8 * colBytes m ≤ C .width * (8 * colBytes m) = line-within (C .width) (8 * colBytes m) g hg in
           simp (length-take, length-drop) (omega (arith, whole, mul-assoc (C .width) 8 (colBytes m)))
 
 -- ---- the rows that stand in a workspace
@@ -206,4 +180,4 @@ pub taken-rows : (seeded : Bool) (mode m : ℕ) (session secret taken received :
 unfolding takenRows
 taken-rows seeded mode m session secret taken received e =
     e ∙ ap₂ (λ (b : List ℕ) (x : ℕ). taking (codeOf mode) m secret b (columnsOf seeded x m session taken))
-    (take-all (length received - 27) (drop 27 received) (rw length-drop (omega arith))) (sym (kOf-code mode))
+    (take-all (length received - 27) (drop 27 received) (rw length-drop (omega arith))) (sym (k-of mode))

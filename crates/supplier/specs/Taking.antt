@@ -26,10 +26,11 @@ pub record TakeFit (seeded : Bool) (mode m session secret taken block rows : ℕ
   pub block-long : block ≡ codeOf mode .width * (8 * colBytes m)
   pub rows-long : rows ≡ m * codeOf mode .width
 
--- the same for eight entries and eight columns
-pub record EightFit (seeded : Bool) (m session taken block : ℕ) : Type 0 where
+-- the same for eight entries and eight columns, and the workspace of eight columns
+pub record EightFit (seeded : Bool) (m session taken block eight : ℕ) : Type 0 where
   pub some : 1 ≤ m
   pub few : m ≤ 1024
   pub session-long : session ≡ 12
   pub taken-long : taken ≡ 8 * entryBytes seeded m
   pub block-long : block ≡ 8 * colBytes m
+  pub eight-long : eight ≡ 8 * colBytes m

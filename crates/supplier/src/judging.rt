@@ -1,36 +1,21 @@
 // What answering refuses, document 01, section 7: 1 to 7 and 9 in number order, then the received message from its front.
 ghost use mathlib.Core.Path.{_≡_};
-ghost use Prim.Native.Nat.{_≤_};
 ghost use lib.ListN.{length};
 ghost use Rattle.wire.specs.Shapes.{kOf};
-ghost use Rattle.columns.specs.Sets.{entryBytes};
 ghost use Rattle.supplier.specs.Answer.{answerLengths, takenPadding, answerVerdict};
 use basics::Verdict;
 use basics::refuse_padded;
 use basics::refuse_unless;
+use columns::entry_bytes;
 use wire::Shape;
 use wire::check_received;
-use wire::column_bytes;
 use wire::columns_of;
 use wire::judge_shape;
 use wire::volume;
 
 const BLOCK_AT: usize = 27;
 
-const SEED_BYTES: usize = 32;
-
 const TAG_COLUMNS: u8 = 3;
-
-// The bytes that stand for one column in the taken set.
-pub(crate) fn entry_bytes(seeded: bool, rows: u16) -> usize
-    ensures { λ r. ⌜ (r ≡ entryBytes seeded rows) × (r ≤ 8192) ⌝ }
-{
-    if seeded {
-        SEED_BYTES
-    } else {
-        column_bytes(rows)
-    }
-}
 
 // Refusals 6 and 7.
 fn judge_lengths(

@@ -31,7 +31,7 @@ fn write_masked(
     strings: &[u8],
     message: &mut [u8],
 )
-    requires { ⌜ MaskFit (s .mode) (s .rows) (s .places) (s .bytes) (length (now session)) (length (now secret)) (length (now rows)) (length (now strings)) (length (now strings)) × (length (now message) ≡ 27 + length (now strings)) × (length (now strings) < 65536) ⌝ }
+    requires { ⌜ MaskFit (s .mode) (s .rows) (s .places) (s .bytes) (length (now session)) (length (now secret)) (length (now rows)) (length (now strings)) × (length (now message) ≡ 27 + length (now strings)) × (length (now strings) < 65536) ⌝ }
     ensures { λ _. ⌜ now (message .exit) ≡ messageOf 4 (s .mode) (s .rows) (s .places) (s .bytes) (now (session .entry)) (maskedStrings (s .mode) (s .rows) (s .places) (s .bytes) (now (session .entry)) (now (secret .entry)) (now (rows .entry)) (now (strings .entry))) ⌝ }
 {
     write_header(TAG_STRINGS, strings.len(), s, session, &mut message[0..27]);

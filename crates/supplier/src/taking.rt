@@ -1,8 +1,8 @@
 // Taking, document 01, section 5: the rows q from the received columns and those that were taken, eight columns at a time.
 ghost use mathlib.Core.Path.{_≡_};
-ghost use Prim.Native.Nat.{ℕ, _*_, _<_, _≤_};
+ghost use Prim.Native.Nat.{_*_, _<_, _≤_};
 ghost use lib.Bits.{bitXor, bitAnd};
-ghost use lib.ListN.{length, getD, take, replicate};
+ghost use lib.ListN.{length, getD};
 ghost use Rattle.basics.specs.Bytes.{build};
 ghost use Rattle.basics.specs.Padding.{colBytes};
 ghost use Rattle.words.specs.Code.{k, codeOf};
@@ -10,8 +10,9 @@ ghost use Rattle.construction.specs.Transfer.{taking};
 ghost use Rattle.columns.specs.Gathered.{gatheredEight};
 ghost use Rattle.columns.specs.Sets.{columnsOf};
 ghost use Rattle.supplier.specs.Taking.{ownEight, EightFit, TakeFit};
-use crate::judging::entry_bytes;
+use basics::clear;
 use columns::add_set;
+use columns::entry_bytes;
 use columns::gather_eight;
 use columns::row_bytes;
 use wire::column_bytes;
@@ -45,7 +46,7 @@ fn own_eight(c: usize, bits: u8, block: &[u8], eight: &mut [u8])
     }
 }
 
-// Eight of the supplier's columns, over zeros: the taken ones, then the message's under the secret's mask.
+// Eight of the supplier's columns: the taken ones, then the message's under the secret's mask.
 fn own_columns(
     seeded: bool,
     rows: u16,
@@ -55,31 +56,16 @@ fn own_columns(
     block: &[u8],
     eight: &mut [u8],
 )
-    requires { ⌜ EightFit seeded rows (length (now session)) (length (now taken)) (length (now block)) × (length (now eight) ≡ 8 * colBytes rows) × ((p : ℕ) → getD (now eight) p 0 ≡ 0) ⌝ }
+    requires { ⌜ EightFit seeded rows (length (now session)) (length (now taken)) (length (now block)) (length (now eight)) ⌝ }
     ensures { λ _. ⌜ now (eight .exit) ≡ ownEight (colBytes rows) bits (now (block .entry)) (columnsOf seeded 8 rows (now (session .entry)) (now (taken .entry))) ⌝ }
 {
+    clear(eight);
     add_set(seeded, 8, rows, session, taken, eight);
     own_eight(column_bytes(rows), bits, block, eight);
 }
 
-// The same in the front of a zeroed workspace.
-fn fill_eight(
-    seeded: bool,
-    rows: u16,
-    session: &[u8],
-    bits: u8,
-    taken: &[u8],
-    block: &[u8],
-    work: &mut [u8],
-)
-    requires { ⌜ EightFit seeded rows (length (now session)) (length (now taken)) (length (now block)) × (now work ≡ replicate 1024 0) ⌝ }
-    ensures { λ _. ⌜ take (8 * colBytes rows) (now (work .exit)) ≡ ownEight (colBytes rows) bits (now (block .entry)) (columnsOf seeded 8 rows (now (session .entry)) (now (taken .entry))) ⌝ }
-{
-    let n = 8 * column_bytes(rows);
-    own_columns(seeded, rows, session, bits, taken, block, &mut work[0..n]);
-}
-
-// Gives each row its byte g, from a byte of the secret, eight entries of the taken set and eight columns of the message's block.
+// Gives each row its byte g, from a byte of the secret, eight entries of the taken set and eight columns of the message's block. `eight` is the
+// workspace of eight columns.
 fn take_eight(
     seeded: bool,
     rows: u16,
@@ -89,15 +75,14 @@ fn take_eight(
     bits: u8,
     taken: &[u8],
     block: &[u8],
+    eight: &mut [u8],
     q: &mut [u8],
 )
-    requires { ⌜ EightFit seeded rows (length (now session)) (length (now taken)) (length (now block)) × (g < width) × (length (now q) ≡ rows * width) ⌝ }
+    requires { ⌜ EightFit seeded rows (length (now session)) (length (now taken)) (length (now block)) (length (now eight)) × (g < width) × (length (now q) ≡ rows * width) ⌝ }
     ensures { λ _. ⌜ now (q .exit) ≡ gatheredEight rows width g (ownEight (colBytes rows) bits (now (block .entry)) (columnsOf seeded 8 rows (now (session .entry)) (now (taken .entry)))) (now (q .entry)) ⌝ }
 {
-    let mut work = [0u8; 1024];
-    fill_eight(seeded, rows, session, bits, taken, block, &mut work);
-    let n = 8 * column_bytes(rows);
-    gather_eight(rows, width, g, &work[0..n], q);
+    own_columns(seeded, rows, session, bits, taken, block, eight);
+    gather_eight(rows, width, g, eight, q);
 }
 
 // The rows q, a byte of each row at a time.
@@ -117,6 +102,7 @@ pub(crate) fn take_rows(
     let width = row_bytes(mode);
     let columns = 8 * column_bytes(rows);
     let entries = 8 * entry_bytes(seeded, rows);
+    let mut work = [0u8; 1024];
     let mut g = 0;
     let mut a = 0;
     let mut b = 0;
@@ -132,6 +118,7 @@ pub(crate) fn take_rows(
             secret[g],
             &taken[b..f],
             &block[a..e],
+            &mut work[0..columns],
             q,
         );
         a = e;

@@ -24,7 +24,7 @@ use Rattle.wire.specs.Message.{blockAt, header, messageOf}
 use Rattle.wire.specs.Received.{received}
 use Rattle.wire.proofs.Received.{Received, received-ok}
 use Rattle.buyer.specs.Prepare.{columnBlock, columnMessage}
-use Rattle.buyer.proofs.Sizes.{k-of, row-of}
+use Rattle.columns.proofs.Sizes.{k-of, row-of}
 use Rattle.supplier.specs.Answer.{maskedStrings, answerMessage, Answered}
 use Rattle.transfer.specs.Demands.{Behind, Demand3}
 use Rattle.transfer.proofs.Decided.{decided-zero}

@@ -27,7 +27,7 @@ use Rattle.wire.specs.Received.{received}
 use Rattle.wire.proofs.Received.{received-messageOf}
 use Rattle.buyer.specs.Prepare.{columnBlock, columnMessage, keptRows, prepareVerdict, Prepared}
 use Rattle.buyer.specs.Open.{openedRows, openedStrings, Opened}
-use Rattle.buyer.proofs.Sizes.{k-of, row-of}
+use Rattle.columns.proofs.Sizes.{k-of, row-of}
 use Rattle.supplier.specs.Answer.{answerVerdict, takenRows, maskedStrings, answerMessage, Answered}
 use Rattle.transfer.specs.Rules.{None, shapeRules}
 use Rattle.transfer.specs.Demands.{Run, Passed, Success, Room, Selects, Lawful, G, entries, Demand2}

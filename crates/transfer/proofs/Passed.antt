@@ -28,7 +28,7 @@ use Rattle.wire.proofs.Received.{own-block}
 use Rattle.buyer.specs.Selections.{tooLarge, selectionsVerdict}
 use Rattle.buyer.specs.Prepare.{prepareLengths, setsPadding, prepareVerdict}
 use Rattle.buyer.specs.Open.{openLengths, openVerdict}
-use Rattle.buyer.proofs.Sizes.{k-of}
+use Rattle.columns.proofs.Sizes.{k-of}
 use Rattle.supplier.specs.Answer.{answerLengths, takenPadding, answerVerdict}
 use Rattle.transfer.specs.Rules.{Fit, prepareInputs, prepareOutputs, answerInputs, answerOutputs, openInputs, openOutputs}
 use Rattle.transfer.proofs.Decided.{lengthsFrom}

@@ -2,7 +2,6 @@
 use borrow.Author.Needs.{needs}
 use native.Mathlib.Omega.{arith}
 use mathlib.Core.Path.{_≡_, refl}
-use mathlib.Core.Logic.{⊎-elim}
 use Prim.Native.Nat.{ℕ, _-_, _≤_, min}
 use lib.ListN.{length, getD}
 use Rattle.basics.proofs.Fill.{Filled, filled-none, filled-more, filled-copy}
@@ -14,9 +13,6 @@ Inv-loop src out₀ n p₀ out p = (Filled (λ i. getD src i 0) p out₀ out) ×
 
 abbrev μ-loop : tie.MeasureT-loop
 μ-loop src out₀ n p₀ out p = n - p
-
-loop-holds : tie.Need-loop-holds Inv-loop μ-loop
-loop-holds c = (filled-none _ _, omega arith, ⊎-elim (λ w. omega arith) (λ w. omega arith) (c .if1 .came))
 
 loop-again : tie.Need-loop-again Inv-loop μ-loop
 loop-again c = (filled-more (c .before .before .loop .inv .0) (search needs) refl, search needs, search needs)
@@ -30,7 +26,8 @@ copy-spec =
     (tie.spec
     Inv-loop
     μ-loop
-    loop-holds
+    (λ c κs. search needs)
+    (λ c. (filled-none _ _, omega arith, c .reach .ensures))
     (λ c. search needs)
     (λ c. search needs)
     (λ c. search needs)

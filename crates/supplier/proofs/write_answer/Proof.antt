@@ -68,7 +68,7 @@ write-masked-requires c κs =
     let b = t .before .before .before in
     let a = start b .args in (
       ready-mask (a .seeded) (a .s .mode) (a .s .rows) (a .s .places) (a .s .bytes) (a .session .now) (a .secret .now) (a .taken .now) (a .strings .now) (a .received .now)
-          (length (a .message .now)) (known b) _ _ (ap length (again t) ∙ taken-long t ∙ rows-long b) (known b .lengths .strings-long),
+          (length (a .message .now)) (known b) _ (ap length (again t) ∙ taken-long t ∙ rows-long b),
       known b .lengths .message-long ∙ ap (λ (x : ℕ). 27 + x) (sym (known b .lengths .strings-long)),
       omega (arith, known b .lengths .strings-long, known b .shape .volume),
     )

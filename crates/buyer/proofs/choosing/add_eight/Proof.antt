@@ -6,7 +6,7 @@ use borrow.Author.Needs.{needs}
 use Rattle.words.specs.Code.{k, codeOf}
 use Rattle.buyer.specs.Chosen.{placeByte}
 use Rattle.buyer.proofs.Chosen.{begins-at, added-ext}
-use Rattle.buyer.proofs.Sizes.{k-of}
+use Rattle.columns.proofs.Sizes.{k-of}
 use Rattle.buyer.proofs.choosing.add_eight.Statement.{statement}
 use Rattle.buyer.proofs.choosing.add_eight.Tie as tie
 

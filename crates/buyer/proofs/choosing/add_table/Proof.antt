@@ -5,8 +5,7 @@ use native.Mathlib.Omega.{arith}
 use borrow.Author.Needs.{needs}
 use lib.Arith.{digits-lt}
 use lib.ListN.{length, getD}
-use Rattle.basics.proofs.Bytes.{mul-le-both}
-use Rattle.columns.proofs.Gathered.{row-next}
+use Rattle.basics.proofs.Bytes.{mul-le-both, line-next}
 use Rattle.buyer.proofs.Chosen.{Added, added-none, added-more, added-end}
 use Rattle.buyer.proofs.choosing.add_table.Statement.{statement}
 use Rattle.buyer.proofs.choosing.add_table.Tie as tie
@@ -47,7 +46,7 @@ loop-again c =
     let h = c .before .before .loop-test .taken in (
       added-more (l .loop .inv .0) (l .before .pre .0) (l .loop .inv .2) (omega (arith, inside l h .0)) refl,
       omega arith,
-      omega (arith, row-next (a .c) (l .loop .i)),
+      omega (arith, line-next (a .c) (l .loop .i)),
     )
 
 returns : tie.Need-returns Inv-loop μ-loop

@@ -6,7 +6,7 @@ use borrow.Author.Needs.{needs}
 use lib.ListN.{length}
 use Rattle.basics.proofs.Verdicts.{gives-new, gives-old}
 use Rattle.buyer.specs.Open.{openedRows, openedStrings}
-use Rattle.buyer.proofs.Sizes.{row-of}
+use Rattle.columns.proofs.Sizes.{row-of}
 use Rattle.buyer.proofs.Judged.{Opens, open-passed, strings-long}
 use Rattle.buyer.proofs.Prepared.{part-long}
 use Rattle.buyer.proofs.Opened.{part-all}

@@ -6,9 +6,9 @@ use native.Mathlib.Omega.{arith}
 use borrow.Author.Needs.{needs}
 use lib.ListN.{length, getD, take, drop}
 use Rattle.basics.specs.Bytes.{build}
+use Rattle.basics.proofs.Bytes.{line-next, line-within}
 use Rattle.basics.proofs.Fill.{Filled, filled-none, filled-part, filled-end}
-use Rattle.columns.proofs.Gathered.{row-next}
-use Rattle.buyer.proofs.Opened.{line-fits, string-fits, part-of, openedAt, row-opened, rows-opened}
+use Rattle.buyer.proofs.Opened.{string-fits, part-of, openedAt, row-opened, rows-opened}
 use Rattle.buyer.proofs.opening.open_rows.Statement.{statement}
 use Rattle.buyer.proofs.opening.open_rows.Tie as tie
 
@@ -34,8 +34,8 @@ room l h =
     let s = start l in
     let a = s .args in
     let w = l .before .row-bytes in (
-      omega (arith, line-fits (a .s .rows) (a .s .bytes) (l .loop .j) h, s .pre .opened-long, l .loop .inv .2),
-      omega (arith, line-fits (a .s .rows) (w .result) (l .loop .j) h, ap (λ (x : ℕ). a .s .rows * x) (w .ensures .is), s .pre .kept-long, l .loop .inv .3),
+      omega (arith, line-within (a .s .rows) (a .s .bytes) (l .loop .j) h, s .pre .opened-long, l .loop .inv .2),
+      omega (arith, line-within (a .s .rows) (w .result) (l .loop .j) h, ap (λ (x : ℕ). a .s .rows * x) (w .ensures .is), s .pre .kept-long, l .loop .inv .3),
       omega (arith, string-fits (a .s .rows) (a .s .places) (a .s .bytes) (l .loop .j) (getD (a .selections .now) (l .loop .j) 0) h (s .pre .small (l .loop .j) h), s .pre .strings-long),
     )
 
@@ -96,8 +96,8 @@ loop-again c =
           (ap₂ (λ (x y : ℕ). take x (drop y (a .strings .now))) string-size (at .ensures)) (ap₂ (λ (x y : ℕ). take x (drop y (a .kept .now))) row-size (l .loop .inv .3))
           ∙ ap (λ (x : ℕ). build (a .s .bytes) (λ p. f (x + p))) (sym (l .loop .inv .2))),
       omega (arith, h),
-      omega (arith, row-next (a .s .bytes) (l .loop .j), l .loop .inv .2),
-      omega (arith, row-next w (l .loop .j), l .loop .inv .3),
+      omega (arith, line-next (a .s .bytes) (l .loop .j), l .loop .inv .2),
+      omega (arith, line-next w (l .loop .j), l .loop .inv .3),
     )
 
 returns : tie.Need-returns Inv-loop μ-loop

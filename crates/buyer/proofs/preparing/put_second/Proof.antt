@@ -9,7 +9,7 @@ use Rattle.basics.specs.Padding.{colBytes}
 use Rattle.words.specs.Code.{codeOf}
 use Rattle.construction.specs.Transfer.{chosen}
 use Rattle.buyer.specs.Prepare.{keptColumns}
-use Rattle.buyer.proofs.Sizes.{k-of}
+use Rattle.columns.proofs.Sizes.{k-of}
 use Rattle.buyer.proofs.Prepared.{set-alone, set-long}
 use Rattle.buyer.proofs.preparing.put_second.Statement.{statement}
 use Rattle.buyer.proofs.preparing.put_second.Tie as tie

@@ -3,7 +3,7 @@ use borrow.Author.Needs.{needs}
 use native.Mathlib.Omega.{arith}
 use mathlib.Core.Path.{_≡_, _∙_}
 use lib.ListN.{length}
-use Rattle.columns.proofs.Sets.{xor-agree}
+use Rattle.basics.proofs.Bytes.{xor-agree}
 use Rattle.columns.proofs.adding.add_column.Statement.{statement}
 use Rattle.columns.proofs.adding.add_column.Tie as tie
 

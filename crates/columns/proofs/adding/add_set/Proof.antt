@@ -23,27 +23,19 @@ fit t = set-fit-passed _ _ _ _ _ _ (sym (t .before .set-fit .ensures) ∙ t .if1
 
 add-expanded-requires : tie.Need-add-expanded-requires
 add-expanded-requires c κs =
-    let t = c .before .before in
+    let t = c .before .before .before in
     let a = t .before .before .before .before .before .args in
     let f = fit t in
-    let long : length (a .set .now) ≡ a .count * 32 = f .set-long ∙ ap (λ (b : Bool). a .count * pick b 32 (colBytes (a .rows))) (c .before .if2 .taken) in
-    (f .some, f .few, refl, f .session-long, long, f .block-long, omega arith)
-
-xor-into-requires : tie.Need-xor-into-requires
-xor-into-requires c κs =
-    let t = c .before .before in
-    let a = t .before .before .before .before .before .args in
-    let f = fit t in
-    let long : length (a .set .now) ≡ a .count * colBytes (a .rows) = f .set-long ∙ ap (λ (b : Bool). a .count * pick b 32 (colBytes (a .rows))) (c .before .if2 .left) in
-    omega (arith, long, f .block-long)
+    let long : length (a .set .now) ≡ a .count * 32 = f .set-long ∙ ap (λ (b : Bool). a .count * pick b 32 (colBytes (a .rows))) (c .before .before .if2 .taken) in
+    (f .some, f .few, c .before .column-bytes .ensures, f .session-long, long, f .block-long ∙ ap (λ (x : ℕ). a .count * x) (sym (c .before .column-bytes .ensures)), omega arith)
 
 returns : tie.Need-returns
 returns c =
-    let t = c .before .before .before .before .before in
+    let t = c .before .before .before .before .before .before in
     let a = t .before .before .before .before .before .args in
     pick-passed _ (sym (t .before .set-fit .ensures) ∙ t .if1 .taken)
     (c .before .before .add-expanded .ensures
-    ∙ ap (λ (b : Bool). a .block .now ⊕ columnsOf b (a .count) (a .rows) (a .session .now) (a .set .now)) (sym (c .before .before .before .before .if2 .taken)))
+    ∙ ap (λ (b : Bool). a .block .now ⊕ columnsOf b (a .count) (a .rows) (a .session .now) (a .set .now)) (sym (c .before .before .before .before .before .if2 .taken)))
 
 returns-2 : tie.Need-returns-2
 returns-2 c =
@@ -61,9 +53,9 @@ add-set-spec =
     tie.close
     (tie.spec
     (λ c κs. search needs)
-    (λ c. search needs)
+    (λ c κs. search needs)
     add-expanded-requires
-    xor-into-requires
+    (λ c κs. search needs)
     (λ c. search needs)
     returns
     (λ c. search needs)

@@ -5,23 +5,23 @@ use mathlib.Core.Path.{_≡_, refl, sym, ap, ap₂, _∙_}
 use mathlib.Core.List.{List}
 use Prim.Native.Nat.{ℕ, _+_, _-_, _*_, _≤_, _<_}
 use lib.ListN.{length, take, drop, length-take, length-drop}
-use Rattle.basics.proofs.Bytes.{length-build, mul-le-both}
+use Rattle.basics.proofs.Bytes.{mul-le-both, line-next, line-within}
 use Rattle.words.specs.Code.{codeOf}
 use Rattle.words.proofs.Words.{codeOf-width}
 use Rattle.supplier.specs.Masking.{Placed}
-use Rattle.supplier.proofs.Masked.{F, row-within, row-next, string-within, string-next, volume-few, hashed-is, string-masked, placed-none, placed-more}
+use Rattle.supplier.proofs.Masked.{F, string-within, string-next, volume-few, hashed-is, string-masked, placed-none, placed-next, placed-more}
 use Rattle.supplier.proofs.masking.mask_place.Statement.{statement}
 use Rattle.supplier.proofs.masking.mask_place.Tie as tie
 
 abbrev Inv-loop : tie.InvT-loop
-Inv-loop s r session secret rows strings out₀ word w l step j₀ a₀ at₀ out j a at = (Placed (F (s .mode) (s .rows) (s .places) (s .bytes) session secret rows strings) (s .places) (s .bytes) r j out₀ out) × (j ≤ s .rows) × (a ≡ j * w) × (at ≡ (j * s .places + r) * s .bytes)
+Inv-loop s r session secret rows strings₀ word w l step j₀ a₀ at₀ strings j a at = (Placed (F (s .mode) (s .rows) (s .places) (s .bytes) session secret rows strings₀) (s .places) (s .bytes) r j strings₀ strings) × (j ≤ s .rows) × (a ≡ j * w) × (at ≡ (j * s .places + r) * s .bytes)
 
 abbrev μ-loop : tie.MeasureT-loop
-μ-loop s r session secret rows strings out₀ word w l step j₀ a₀ at₀ out j a at = s .rows - j
+μ-loop s r session secret rows strings₀ word w l step j₀ a₀ at₀ strings j a at = s .rows - j
 
 module _ (l : tie.At-loop Inv-loop μ-loop) where
   abbrev start : tie.Start Inv-loop μ-loop
-  start = l .before .before .before .before .before .before .before .before .before .before
+  start = l .before .before .before .before .before .before .before .before .before
 
   -- the next row and the next string stand in theirs
   width : l .before .before .before .row-bytes .result ≡ codeOf (start .args .s .mode) .width
@@ -31,7 +31,7 @@ module _ (l : tie.At-loop Inv-loop μ-loop) where
   row-inside h =
       omega (
         arith,
-        row-within (start .args .s .rows) (l .before .before .before .row-bytes .result) (l .loop .j) h,
+        line-within (start .args .s .rows) (l .before .before .before .row-bytes .result) (l .loop .j) h,
         l .loop .inv .2,
         start .pre .0 .rows-long ∙ ap (λ (x : ℕ). start .args .s .rows * x) (sym width),
       )
@@ -51,20 +51,14 @@ module _ (l : tie.At-loop Inv-loop μ-loop) where
 
 mask-string-requires : tie.Need-mask-string-requires Inv-loop μ-loop
 mask-string-requires c κs =
-    let l = c .before .before .before .before .before .before in
+    let l = c .before .before .before .before in
     let f = start l .pre .0 in
     let wide = l .before .before .before .row-bytes .ensures .high in
-    let long : length (l .loop .out) ≡ length (start l .args .out .now) = l .loop .inv .0 .long in (
-      f .session-long,
-      simp (length-take, length-drop) (omega (arith, wide)),
-      ap length (l .before .before .before .before .masked-word .ensures) ∙ length-build 32 _,
-      simp (length-take, length-drop) (omega (arith, f .bytes-few)),
-      simp (length-take, length-drop) (omega (arith, f .strings-long, f .out-long)),
-    )
+    (f .session-long, simp (length-take, length-drop) (omega (arith, wide)), simp (length-take, length-drop) (omega (arith, f .bytes-few)))
 
 loop-again : tie.Need-loop-again Inv-loop μ-loop
 loop-again c =
-    let t = c .before .before .before .before .before .before .before in
+    let t = c .before .before .before .before .before in
     let l = t .before .before in
     let s = start l in
     let a = s .args in
@@ -72,15 +66,16 @@ loop-again c =
     let f = s .pre .0 in
     let size : l .loop .at + a .s .bytes - l .loop .at ≡ a .s .bytes = omega arith in
     let across : l .loop .a + l .before .before .before .row-bytes .result - l .loop .a ≡ l .before .before .before .row-bytes .result = omega arith in (
-      placed-more (l .loop .inv .0) (s .pre .1) (l .loop .inv .3) refl (omega (arith, string-inside l h, f .out-long))
+      placed-more (l .loop .inv .0) (s .pre .1) (l .loop .inv .3) refl (omega (arith, string-inside l h, f .strings-long))
           (c .before .before .mask-string .ensures
           ∙ string-masked (a .s .mode) (a .s .rows) (a .s .places) (a .s .bytes) (a .session .now) (a .secret .now) (a .rows .now) (a .strings .now) h (s .pre .1)
-          (f .strings-long) (l .loop .inv .3) (ap (λ (x : ℕ). take x (drop (l .loop .at) (a .strings .now))) size)
+          (f .strings-long) (l .loop .inv .3)
+          (ap (λ (x : ℕ). take x (drop (l .loop .at) (l .loop .strings))) size ∙ placed-next (l .loop .inv .0) (s .pre .1) (l .loop .inv .3))
           (hashed-is (codeOf (a .s .mode)) (a .secret .now) (a .rows .now) (l .loop .j) (a .r) (a .s .rows) h (f .rows-long) (codeOf-width (a .s .mode))
           (ap₂ (λ (x y : ℕ). take x (drop y (a .rows .now))) (across ∙ width l) (l .loop .inv .2 ∙ ap (λ (x : ℕ). l .loop .j * x) (width l)))
           (l .before .before .before .before .masked-word .ensures))),
       omega arith,
-      omega (arith, row-next (l .before .before .before .row-bytes .result) (l .loop .j), l .loop .inv .2),
+      omega (arith, line-next (l .before .before .before .row-bytes .result) (l .loop .j), l .loop .inv .2),
       omega (arith, string-next (a .s .places) (a .s .bytes) (l .loop .j) (a .r), l .loop .inv .3),
     )
 
@@ -101,8 +96,8 @@ mask-place-spec =
     (λ c κs. search needs)
     (λ c. search needs)
     (λ c. search needs)
-    (λ c. let s = c .before .before .before .before .before .before .before .before .before in omega (arith, mul-le-both _ _ 256 32 (s .pre .0 .places-few) (s .pre .0 .bytes-few)))
-    (λ c. let s = c .before .before .before .before .before .before .before .before .before in omega (arith, mul-le-both (s .args .r) (s .args .s .bytes) 256 32 (omega (arith, s .pre .1, s .pre .0 .places-few)) (s .pre .0 .bytes-few)))
+    (λ c. let s = c .before .before .before .before .before .before .before .before in omega (arith, mul-le-both _ _ 256 32 (s .pre .0 .places-few) (s .pre .0 .bytes-few)))
+    (λ c. let s = c .before .before .before .before .before .before .before .before in omega (arith, mul-le-both (s .args .r) (s .args .s .bytes) 256 32 (omega (arith, s .pre .1, s .pre .0 .places-few)) (s .pre .0 .bytes-few)))
     (λ c. (placed-none _ _ _ _ _, omega arith, omega arith, omega arith))
     (λ c. search needs)
     (λ c. let l = c .before .before in omega (arith, row-inside l (c .if1 .taken), rows-few l))
@@ -112,13 +107,9 @@ mask-place-spec =
     (λ c. let l = c .before .before in omega (arith, row-inside l (c .if1 .taken)))
     (λ c. search needs)
     (λ c. search needs)
-    (λ c. search needs)
-    (λ c. let l = c .before .before .before .before in omega (arith, string-inside l (c .before .before .if1 .taken), start l .pre .0 .strings-long))
-    (λ c. search needs)
-    (λ c. search needs)
-    (λ c. let l = c .before .before .before .before .before in omega (arith, string-inside l (c .before .before .before .if1 .taken), start l .pre .0 .out-long, l .loop .inv .0 .long))
+    (λ c. let l = c .before .before .before in omega (arith, string-inside l (c .before .if1 .taken), start l .pre .0 .strings-long, l .loop .inv .0 .long))
     mask-string-requires
-    (λ c. let t = c .before .before .before .before .before .before .before in omega (arith, string-inside (t .before .before) (t .if1 .taken), few (t .before .before), step-few (t .before .before)))
+    (λ c. let t = c .before .before .before .before .before in omega (arith, string-inside (t .before .before) (t .if1 .taken), few (t .before .before), step-few (t .before .before)))
     (λ c. search needs)
     (λ c. search needs)
     loop-again

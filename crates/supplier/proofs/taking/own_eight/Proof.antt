@@ -6,10 +6,10 @@ use mathlib.Core.List.{List}
 use Prim.Native.Nat.{ℕ, _+_, _-_, _*_, _≤_, _<_}
 use lib.ListN.{length, take, drop, length-take, length-drop}
 use Rattle.basics.specs.Bytes.{bit}
-use Rattle.basics.proofs.Bytes.{bit-small}
+use Rattle.basics.proofs.Bytes.{bit-small, line-next, line-within}
 use Rattle.basics.proofs.Fill.{Filled, filled-none, filled-part, filled-end}
 use Rattle.supplier.specs.Taking.{ownEight}
-use Rattle.supplier.proofs.Taken.{own, own-part, next-column, column-within}
+use Rattle.supplier.proofs.Taken.{own, own-part}
 use Rattle.supplier.proofs.taking.own_eight.Statement.{statement}
 use Rattle.supplier.proofs.taking.own_eight.Tie as tie
 
@@ -21,7 +21,7 @@ abbrev μ-loop : tie.MeasureT-loop
 
 -- the next column stands within the eight
 inside : (l : tie.At-loop Inv-loop μ-loop) → l .loop .e < 8 → l .loop .a + l .before .before .before .args .c ≤ 8 * l .before .before .before .args .c
-inside l h = omega (arith, column-within (l .loop .e) (l .before .before .before .args .c) h, l .loop .inv .2)
+inside l h = omega (arith, line-within 8 (l .before .before .before .args .c) (l .loop .e) h, l .loop .inv .2)
 
 loop-again : tie.Need-loop-again Inv-loop μ-loop
 loop-again c =
@@ -35,7 +35,7 @@ loop-again c =
           (c .before .before .xor-under .ensures
           ∙ own-part (a .c) (a .bits) (a .block .now) (a .eight .now) (l .loop .e) _ (l .loop .inv .0) (l .loop .inv .2) size (λ p. omega (arith, l .before .before .shared-slice-known .given p)) (omega (arith, s .pre .1))),
       omega arith,
-      omega (arith, next-column (l .loop .e) (a .c), l .loop .inv .2),
+      omega (arith, line-next (l .loop .e) (a .c), l .loop .inv .2),
     )
 
 returns : tie.Need-returns Inv-loop μ-loop

@@ -1,4 +1,4 @@
--- k by a shape's mode is the places of the mode's code, and both are a power of two. Assumes nothing.
+-- k and the row's bytes by a shape's mode are those of the mode's code. Assumes nothing.
 use mathlib.Core.Path.{_≡_, refl}
 use mathlib.Core.Bool.{Bool, true, false}
 use Prim.Native.Nat.{ℕ, _/_}
@@ -15,7 +15,6 @@ k-of mode = cases (eqb mode 2)
     cases true = refl
     cases false = refl
 
--- the bytes of a row
 pub row-of : (mode : ℕ) → kOf mode / 8 ≡ codeOf mode .width
 unfolding kOf codeOf
 row-of mode = cases (eqb mode 2)
