@@ -1,15 +1,16 @@
 -- Laws of gathering: the loop that gives each row one byte, and the loop over the bytes of a row. Assumes nothing.
 use mathlib.Core.Path.{_≡_, refl, sym, ap, ap₂, _∙_}
 use mathlib.Core.Bool.{Bool, true, false, _&&_}
-use mathlib.Core.List.{List}
+use mathlib.Core.List.{List, _++_}
 use Prim.Native.Nat.{ℕ, zero, suc, _+_, _-_, _*_, _/_, _%_, _≤_, _<_}
-use native.Mathlib.Nat.{mod-lt, div-add-mod', div-lt-iff-lt-mul, add-mul, one-mul, mul-assoc}
-use native.Mathlib.Decide.{ℕ-discrete}
+use native.Mathlib.Nat.{mod-lt, div-add-mod', div-lt-iff-lt-mul, add-mul, one-mul, mul-assoc, mul-add-mod-self-right, mul-le-mul-right}
+use native.Mathlib.Decide.{ℕ-discrete, decLt}
 use native.Mathlib.Omega.{arith}
-use lib.ListN.{length, getD, take, drop, set, length-set}
-use lib.Seq.{ext-getD, getD-set-same, getD-set-other, getD-take, getD-drop}
+use lib.ListN.{length, getD, take, drop, set, length-set, length-take, length-drop, List·getD-append}
+use lib.Seq.{ext-getD, getD-set-same, getD-set-other, getD-take, getD-drop, getD-append-add, length-take-le}
 use lib.Arith.{digits-lt, digits-div, digits-mod}
 use lib.Dec.{eqb}
+use borrow.Rule.Slice.PartMut.{putMid, same-len-mid}
 use borrow.Author.Count.{below-more}
 use borrow.Author.Tests.{eq-eqb, ne-eqb, eqb-true, lt-ltb, ltb-true}
 use Rattle.basics.specs.Choice.{pick}
@@ -18,6 +19,27 @@ use Rattle.basics.specs.Padding.{colBytes}
 use Rattle.basics.proofs.Choice.{both, picked}
 use Rattle.basics.proofs.Bytes.{length-build, getD-build, build-is, pack-ext, pos-right}
 use Rattle.columns.specs.Gathered.{gathered, gatheredEight, eightFit, rowsFit}
+use Rattle.columns.specs.Turned.{given}
+
+-- ---- a part of k bytes that was lent from a and came back as ys, byte by byte
+
+module _ (a k : ℕ) (now ys : List ℕ) (h : a + k ≤ length now) (hy : length ys ≡ k) where
+  front : length (take a now) ≡ a
+  front = length-take-le a now (omega arith)
+
+  put-before : (p : ℕ) → p < a → getD (putMid a k now ys) p 0 ≡ getD now p 0
+  put-before p l = List·getD-append (take a now) _ 0 p (omega (arith, front)) ∙ getD-take a now p 0 l
+
+  put-inside : (b : ℕ) → b < k → getD (putMid a k now ys) (a + b) 0 ≡ getD ys b 0
+  put-inside b l =
+      ap (λ (x : ℕ). getD (putMid a k now ys) (x + b) 0) (sym front)
+      ∙ getD-append-add (take a now) _ b 0 ∙ List·getD-append ys _ 0 b (omega arith)
+
+  put-after : (b : ℕ) → getD (putMid a k now ys) (a + (k + b)) 0 ≡ getD now (a + (k + b)) 0
+  put-after b =
+      ap (λ (x : ℕ). getD (putMid a k now ys) (x + (k + b)) 0) (sym front)
+      ∙ getD-append-add (take a now) _ (k + b) 0 ∙ ap (λ (x : ℕ). getD (ys ++ drop k (drop a now)) (x + b) 0) (sym hy)
+      ∙ getD-append-add ys _ b 0 ∙ getD-drop k (drop a now) b 0 ∙ getD-drop a now (k + b) 0
 
 -- ---- rows of `width` bytes in which the first j have f at their byte g, and which hold what they held at every other byte
 
@@ -42,28 +64,86 @@ given-more {f} {width} {g} {j} {at} {v} {old} {now} z hg ha hl hv = record {
   same = λ p h. getD-set-other now at p v 0 (λ e. h (ap (λ (x : ℕ). x % width) (e ∙ ha) ∙ digits-mod j hg)) ∙ z .same p h;
 }
 
-pub given-end : (m width g : ℕ) (eight : List ℕ) {old now : List ℕ} → Given (gathered (colBytes m) eight) width g m old now → g < width → length old ≡ m * width
-    → now ≡ gatheredEight m width g eight old
-unfolding gatheredEight
-given-end m width g eight {old} {now} z hg hl =
-    ext-getD 0 now (build (length old) f) (z .long ∙ sym (length-build (length old) f))
-    (λ p h. let hp : p < length old = omega (arith, z .long) in at-place p hp (ℕ-discrete (p % width) g) ∙ sym (getD-build (length old) f p hp))
+pub given-end : {f : ℕ → ℕ} {m width g : ℕ} {old now : List ℕ} → Given f width g m old now → g < width → length old ≡ m * width → now ≡ given width g f old
+unfolding given
+given-end {f} {m} {width} {g} {old} {now} z hg hl =
+    ext-getD 0 now (build (length old) new) (z .long ∙ sym (length-build (length old) new))
+    (λ p h. let hp : p < length old = omega (arith, z .long) in at-place p hp (ℕ-discrete (p % width) g) ∙ sym (getD-build (length old) new p hp))
   where
-    f : ℕ → ℕ
-    f p = pick (eqb (p % width) g) (gathered (colBytes m) eight (p / width)) (getD old p 0)
+    new : ℕ → ℕ
+    new p = pick (eqb (p % width) g) (f (p / width)) (getD old p 0)
 
-    at-place : (p : ℕ) → p < length old → Dec (p % width ≡ g) → getD now p 0 ≡ f p
+    at-place : (p : ℕ) → p < length old → Dec (p % width ≡ g) → getD now p 0 ≡ new p
     at-place p hp (yes e) =
         let row : p / width < m = div-lt-iff-lt-mul {k = width} (omega arith) .1 (omega arith) in
         let split : p ≡ p / width * width + g = sym (div-add-mod' p width) ∙ ap (λ (x : ℕ). p / width * width + x) e in
         ap (λ (x : ℕ). getD now x 0) split ∙ z .new (p / width) row
-        ∙ sym (ap (λ (b : Bool). pick b (gathered (colBytes m) eight (p / width)) (getD old p 0)) (eq-eqb (p % width) g e))
-    at-place p hp (no n) =
-        z .same p n ∙ sym (ap (λ (b : Bool). pick b (gathered (colBytes m) eight (p / width)) (getD old p 0)) (ne-eqb (p % width) g n))
+        ∙ sym (ap (λ (b : Bool). pick b (f (p / width)) (getD old p 0)) (eq-eqb (p % width) g e))
+    at-place p hp (no n) = z .same p n ∙ sym (ap (λ (b : Bool). pick b (f (p / width)) (getD old p 0)) (ne-eqb (p % width) g n))
+
+pub given-eight : (m width g : ℕ) (eight old : List ℕ) → given width g (gathered (colBytes m) eight) old ≡ gatheredEight m width g eight old
+unfolding given gatheredEight
+given-eight m width g eight old = refl
+
+-- k rows from row j on, lent as a part of n bytes from a, each of which took its byte g
+pub given-part : (k : ℕ) {f u : ℕ → ℕ} {width g j a n : ℕ} {old now ys : List ℕ} → Given f width g j old now → g < width → a ≡ j * width → n ≡ k * width → a + n ≤ length old
+    → ((i : ℕ) → i < k → u i ≡ f (j + i)) → ys ≡ given width g u (take n (drop a now)) → Given f width g (j + k) old (putMid a n now ys)
+unfolding given
+given-part k {f} {u} {width} {g} {j} {a} {n} {old} {now} {ys} z hg ha hn hl hu hy = record {
+  long = same-len-mid a n now ys (hylen ∙ sym part) ∙ z .long;
+  new = λ i h. row i h (decLt i j);
+  same = λ p h. other p h (decLt p a) (decLt p (a + n));
+}
+  where
+    part : length (take n (drop a now)) ≡ n
+    part = simp (length-take, length-drop) (omega (arith, z .long))
+
+    hylen : length ys ≡ n
+    hylen = ap length hy ∙ length-build (length (take n (drop a now))) _ ∙ part
+
+    fits : a + n ≤ length now
+    fits = omega (arith, z .long)
+
+    -- byte b of the part
+    here : (b : ℕ) → b < n → getD (putMid a n now ys) (a + b) 0 ≡ pick (eqb (b % width) g) (u (b / width)) (getD now (a + b) 0)
+    here b h =
+        put-inside a n now ys fits hylen b h ∙ ap (λ (s : List ℕ). getD s b 0) hy ∙ getD-build (length (take n (drop a now))) _ b (omega (arith, part))
+        ∙ ap (pick (eqb (b % width) g) (u (b / width))) (getD-take n (drop a now) b 0 h ∙ getD-drop a now b 0)
+
+    row : (i : ℕ) → i < j + k → Dec (i < j) → getD (putMid a n now ys) (i * width + g) 0 ≡ f i
+    row i h (yes l) = put-before a n now ys fits hylen (i * width + g) (omega (arith, digits-lt l hg)) ∙ z .new i l
+    row i h (no l) =
+        let rest : j + (i - j) ≡ i = omega arith in
+        let inner : i - j < k = omega arith in
+        let place : i * width + g ≡ a + ((i - j) * width + g) = sym (ap (λ (x : ℕ). x * width + g) rest) ∙ omega (arith, add-mul j (i - j) width) in
+        ap (λ (p : ℕ). getD (putMid a n now ys) p 0) place ∙ here ((i - j) * width + g) (omega (arith, digits-lt inner hg))
+        ∙ ap₂ (λ (x y : ℕ). pick (eqb x g) (u y) (getD now (a + ((i - j) * width + g)) 0)) (digits-mod (i - j) hg) (digits-div (i - j) hg)
+        ∙ picked _ _ (eq-eqb g g refl) ∙ hu (i - j) inner ∙ ap f rest
+
+    other : (p : ℕ) → (p % width ≡ g → ⊥) → Dec (p < a) → Dec (p < a + n) → getD (putMid a n now ys) p 0 ≡ getD old p 0
+    other p h (yes l) d = put-before a n now ys fits hylen p l ∙ z .same p h
+    other p h (no l) (yes r) =
+        let split : a + (p - a) ≡ p = omega arith in
+        let low : (p - a) % width ≡ p % width
+        = sym (mul-add-mod-self-right j width (p - a)) ∙ ap (λ (x : ℕ). (x + (p - a)) % width) (sym ha) ∙ ap (λ (x : ℕ). x % width) split in
+        ap (λ (x : ℕ). getD (putMid a n now ys) x 0) (sym split) ∙ here (p - a) (omega arith)
+        ∙ ap (λ (b : Bool). pick b (u ((p - a) / width)) (getD now (a + (p - a)) 0)) (ne-eqb ((p - a) % width) g (λ e. h (sym low ∙ e)))
+        ∙ ap (λ (x : ℕ). getD now x 0) split ∙ z .same p h
+    other p h (no l) (no r) =
+        let split : a + (n + (p - (a + n))) ≡ p = omega arith in
+        ap (λ (x : ℕ). getD (putMid a n now ys) x 0) (sym split) ∙ put-after a n now ys fits hylen (p - (a + n))
+        ∙ ap (λ (x : ℕ). getD now x 0) split ∙ z .same p h
 
 -- row j's byte g lies within m rows
 pub row-at : (m width g j : ℕ) → j < m → g < width → j * width + g < m * width
 row-at m width g j hj hg = digits-lt hj hg
+
+-- j rows and k more take no more than m rows do
+pub rows-within : (m width j k : ℕ) → j + k ≤ m → j * width + k * width ≤ m * width
+rows-within m width j k h = rw (← add-mul) (mul-le-mul-right width h)
+
+pub rows-rest : (m width j k : ℕ) → j + k ≡ m → m * width - j * width ≡ k * width
+rows-rest m width j k h = omega (arith, add-mul j k width, ap (λ (x : ℕ). x * width) h)
 
 pub row-next : (width j : ℕ) → (j + 1) * width ≡ j * width + width
 row-next width j = add-mul j 1 width ∙ ap (λ (x : ℕ). j * width + x) (one-mul width)

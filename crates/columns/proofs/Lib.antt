@@ -1,3 +1,5 @@
 pub mod Sets
 pub mod Gathered
 pub mod Sizes
+pub mod Bits
+pub mod Turned

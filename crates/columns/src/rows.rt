@@ -1,41 +1,85 @@
 // A set of columns turned into rows, eight columns at a time: eight columns give one byte to each row.
 ghost use mathlib.Core.Path.{_≡_};
-ghost use Prim.Native.Nat.{ℕ, _+_, _*_, _/_, _<_, _≤_};
+ghost use Prim.Native.Nat.{ℕ, _+_, _*_, _<_, _≤_};
 ghost use lib.ListN.{length};
 ghost use Rattle.basics.specs.Choice.{pick};
 ghost use Rattle.basics.specs.Bytes.{bitIn, lines};
 ghost use Rattle.basics.specs.Padding.{colBytes};
 ghost use Rattle.words.specs.Code.{codeOf};
 ghost use Rattle.construction.specs.Transfer.{rows as rowsOf};
-ghost use Rattle.columns.specs.Gathered.{gathered, gatheredEight, eightFit, rowsFit, RowBytes};
+ghost use Rattle.columns.specs.Turned.{eightBytes, swapped, turned, byteOf, given};
+ghost use Rattle.columns.specs.Gathered.{gatheredEight, eightFit, rowsFit, RowBytes};
 
-// Bit j of eight columns of c bytes, the first column's lowest.
-fn gathered_byte(c: usize, eight: &[u8], j: usize) -> u8
-    requires { ⌜ (length (now eight) ≡ 8 * c) × (j / 8 < c) × (c < 65536) ⌝ }
-    ensures { λ r. ⌜ r ≡ gathered c (now (eight .entry)) j ⌝ }
+// Byte number `byte` of each of eight columns of c bytes, as one number, the first column's lowest.
+fn eight_bytes(c: usize, eight: &[u8], byte: usize) -> u64
+    requires { ⌜ (length (now eight) ≡ 8 * c) × (byte < c) × (c < 65536) ⌝ }
+    ensures { λ r. ⌜ r ≡ eightBytes c (now (eight .entry)) byte ⌝ }
 {
-    let byte = j / 8;
-    let shift = j % 8;
-    let mut acc: u8 = 0;
+    let mut w: u64 = 0;
     let mut e: usize = 8;
     while 0 < e {
         e -= 1;
-        acc = acc * 2 + (eight[e * c + byte] >> shift) % 2;
+        w = w * 256 + eight[e * c + byte] as u64;
     }
-    acc
+    w
 }
 
-// Gives each of m rows its byte g.
+// Each bit of x at a place of the mask changes places with the bit `by` places above it, by three xors and no branch.
+fn swap(x: u64, mask: u64, by: usize) -> u64
+    requires { ⌜ by < 64 ⌝ }
+    ensures { λ r. ⌜ r ≡ swapped mask by x ⌝ }
+{
+    let t = (x ^ (x >> by)) & mask;
+    x ^ t ^ (t << by)
+}
+
+// Eight bytes turned: bit s of byte e becomes bit e of byte s. Single bits change places across the diagonal, then pairs, then fours, so that eight rows
+// have their bytes after three steps and not after 64.
+fn turn(w: u64) -> u64
+    ensures { λ r. ⌜ r ≡ turned w ⌝ }
+{
+    let singles = swap(w, 0x00aa_00aa_00aa_00aa, 7);
+    let pairs = swap(singles, 0x0000_cccc_0000_cccc, 14);
+    swap(pairs, 0x0000_0000_f0f0_f0f0, 28)
+}
+
+// Gives each of `count` rows, which are no more than eight, its byte g: row i has byte i of w.
+fn give_word(w: u64, count: usize, width: usize, g: usize, out: &mut [u8])
+    requires { ⌜ (count ≤ 8) × (length (now out) ≡ count * width) × (g < width) × (width < 65536) ⌝ }
+    ensures { λ _. ⌜ now (out .exit) ≡ given width g (byteOf w) (now (out .entry)) ⌝ }
+{
+    let mut i = 0;
+    let mut at = g;
+    while i < count {
+        out[at] = ((w >> (i * 8)) % 256) as u8;
+        at += width;
+        i += 1;
+    }
+}
+
+// Gives each of m rows its byte g, eight rows at a time, and last the rows that are fewer than eight.
 fn give_bytes(m: usize, c: usize, width: usize, g: usize, eight: &[u8], out: &mut [u8])
     requires { ⌜ (c ≡ colBytes m) × (m < 65536) × (length (now eight) ≡ 8 * c) × (length (now out) ≡ m * width) × (g < width) × (width < 65536) ⌝ }
     ensures { λ _. ⌜ now (out .exit) ≡ gatheredEight m width g (now (eight .entry)) (now (out .entry)) ⌝ }
 {
-    let mut j = 0;
-    let mut at = g;
-    while j < m {
-        out[at] = gathered_byte(c, eight, j);
-        at += width;
-        j += 1;
+    let whole = m / 8;
+    let step = 8 * width;
+    let mut b = 0;
+    let mut a = 0;
+    while b < whole {
+        let e = a + step;
+        give_word(turn(eight_bytes(c, eight, b)), 8, width, g, &mut out[a..e]);
+        a = e;
+        b += 1;
+    }
+    if b < c {
+        give_word(
+            turn(eight_bytes(c, eight, b)),
+            m % 8,
+            width,
+            g,
+            &mut out[a..],
+        );
     }
 }
 
