@@ -6,6 +6,7 @@ other block from OpenSSL's command; both are also held to the documents' values.
 
     tools/expected-vectors.py > crates/vectors/stdout
 """
+import functools
 import hashlib
 import subprocess
 
@@ -280,6 +281,104 @@ def messages():
         yield "received %s %d at %d" % ((name,) + received(OWN, tag, message))
 
 
-for subject in [symmetric, words, messages]:
+# Subject: prepare, from sections 2 to 7 alone: words by parity, columns by xor, kept rows by transposition. A seed's keystream is
+# OpenSSL's.
+
+def by_rule(start, modulus, length):
+    return bytes((7 * (i % 251) + start) % modulus for i in range(length))
+
+
+@functools.lru_cache(maxsize=None)
+def keystream(seed):
+    return bytes.fromhex(block(seed, SESSION, 0) + block(seed, SESSION, 1))
+
+
+def expanded(shape, seeds):
+    mode, m, n, l = shape
+    streams = [int.from_bytes(keystream(seeds[32 * i:32 * i + 32]), "little") for i in range(columns_of(mode))]
+    return [stream % 2**m for stream in streams]
+
+
+def handed_in(shape, lent):
+    mode, m, n, l = shape
+    c = -(-m // 8)
+    columns = [int.from_bytes(lent[c * i:c * i + c], "little") for i in range(columns_of(mode))]
+    assert all(column < 2**m for column in columns), "padding"
+    return columns
+
+
+def columns_by_rule(shape, form, start):
+    """A set's columns as numbers of m bits: from seeds and on the seeds' columns they are the same; a number is a modulus."""
+    k = columns_of(shape[0])
+    if form in ("seeds", "the seeds' columns"):
+        return expanded(shape, by_rule(start, 251, 32 * k))
+    return handed_in(shape, by_rule(start, form, block_length(shape, 3)))
+
+
+def prepare_refusal(shape, selections):
+    if shape_refusal(shape):
+        return shape_refusal(shape), 0
+    for row, selection in enumerate(selections):
+        if selection >= shape[2]:
+            return 8, row
+    return 0, 0
+
+
+def prepared(shape, first, second, selections):
+    mode, m, n, l = shape
+    k, c = columns_of(mode), -(-m // 8)
+    of_words = [sum(place(mode, selections[j], i) << j for j in range(m)) for i in range(k)]
+    sent = b"".join((u ^ v ^ d).to_bytes(c, "little") for u, v, d in zip(first, second, of_words))
+    of_kept = [v ^ d for v, d in zip(second, of_words)]
+    rows = [sum((of_kept[i] >> j) % 2 << i for i in range(k)) for j in range(m)]
+    return whole(shape, 3)[:27] + sent, b"".join(row.to_bytes(k // 8, "little") for row in rows)
+
+
+def prepare_outcome(shape, form, changed):
+    mode, m, n, l = shape
+    selections = bytearray(by_rule(4, n, m))
+    for row, selection in changed:
+        selections[row] = selection
+    code, at = prepare_refusal(shape, selections)
+    if code:
+        return code, at, bytes([OLD] * (27 + block_length(shape, 3))), bytes([OLD] * (m * columns_of(mode) // 8))
+    sets = [columns_by_rule(shape, form, start) for start in (11, 29)]
+    return (0, 0) + prepared(shape, sets[0], sets[1], selections)
+
+
+def prepare_line(shape, form, changed=()):
+    code, at, message, kept = prepare_outcome(shape, form, changed)
+    where = "with %d in rows %d and %d, " % (changed[0][1], changed[0][0], changed[-1][0]) if changed else ""
+    source = form if isinstance(form, str) else "columns"
+    digests = hashlib.sha256(message).hexdigest(), hashlib.sha256(kept).hexdigest()
+    return "prepare %smode %d rows %d places %d bytes %d from %s %d at %d %s %s" % ((where,) + shape + (source, code, at) + digests)
+
+
+# A shape, and what the bytes of its columns are below.
+BOUNDS = [
+    ((2, 4, 256, 32), 16), ((1, 1024, 2, 16), 256), ((2, 5, 256, 32), 32), ((1, 1024, 2, 17), 256),
+    ((1, 0, 2, 1), 2), ((1, 1025, 2, 1), 2), ((2, 0, 40, 1), 2), ((2, 1025, 40, 1), 2),
+]
+
+
+def prepare():
+    for shape, modulus in BOUNDS:
+        for form in ["seeds", modulus]:
+            yield prepare_line(shape, form)
+    for m, modulus in [(8, 256), (9, 2)]:
+        for form in ["seeds", modulus, "the seeds' columns"]:
+            yield prepare_line((2, m, 40, 3), form)
+    for shape, form, selection in [
+        ((1, 9, 2, 3), "seeds", 1), ((1, 9, 2, 3), 2, 2), ((2, 9, 40, 3), 2, 39), ((2, 9, 40, 3), "seeds", 40),
+    ]:
+        for rows in [(0, 0), (4, 4), (8, 8), (3, 6)]:
+            yield prepare_line(shape, form, [(row, selection) for row in rows])
+    marked, sent, kept = (2, 1, 8, 1), bytes.fromhex("0001010000010100") * 32, bytes([0x66] * 32)
+    assert prepare_outcome(marked, 1, [(0, 3)]) == (0, 0, whole(marked, 3)[:27] + sent, kept), "P8 and P9"
+    yield "prepare P8 0 at 0 %s" % sent.hex()
+    yield "prepare P9 0 at 0 %s" % kept.hex()
+
+
+for subject in [symmetric, words, messages, prepare]:
     for line in subject():
         print(line)

@@ -14,7 +14,7 @@ struct Case {
     value: u8,
 }
 
-fn shape(mode: u8, rows: u16, places: u16, bytes: u8) -> Shape {
+pub(crate) fn shape(mode: u8, rows: u16, places: u16, bytes: u8) -> Shape {
     Shape {
         mode,
         rows,
@@ -48,7 +48,7 @@ fn set(c: Case, at: usize, value: u8) -> Case {
     d
 }
 
-fn session() -> [u8; 12] {
+pub(crate) fn session() -> [u8; 12] {
     [0, 1, 2, 3, 4, 5, 6, 7, 8, 9, 10, 11]
 }
 
@@ -190,7 +190,7 @@ fn refused_ends() {
     );
 }
 
-fn verdict(v: Verdict) {
+pub(crate) fn verdict(v: Verdict) {
     show::text(b" ");
     show::number(v.code as usize);
     show::text(b" at ");
