@@ -77,7 +77,7 @@ build-bytes n f h p = side (decLt p n)
 pub bit-small : (a e : ℕ) → bit a e < 2
 bit-small a e = mod-lt (a / 2 ^ e) (zero-lt-suc 1)
 
-bit-suc : (a e : ℕ) → bit a (suc e) ≡ bit (a / 2) e
+pub bit-suc : (a e : ℕ) → bit a (suc e) ≡ bit (a / 2) e
 bit-suc a e = ap (λ (x : ℕ). a / x % 2) (pow-suc 2 e ∙ mul-comm (2 ^ e) 2) ∙ ap (λ (x : ℕ). x % 2) (sym (div-div-eq-div-mul a 2 (2 ^ e)))
 
 pack-half : (n : ℕ) (f : ℕ → ℕ) → f 0 < 2 → pack (suc n) f / 2 ≡ pack n (λ e. f (suc e))

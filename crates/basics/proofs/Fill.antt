@@ -8,7 +8,7 @@ use native.Mathlib.Numerals.{add-one}
 use native.Mathlib.Decide.{decLt}
 use native.Mathlib.Omega.{arith}
 use lib.ListN.{length, getD, take, drop, set, length-set, length-append, length-take, length-drop, drop-of-length-le, List·getD-append, List·getD-eq-default}
-use lib.Seq.{drop-cons, drop-drop, drop-length, set-at, take-at, drop-at, getD-take, getD-drop}
+use lib.Seq.{drop-cons, drop-drop, drop-length, set-at, take-at, drop-at, getD-take, getD-drop, getD-append-add, length-take-le}
 use lib.Pow.{pow-mono}
 use lib.Bits.{bitXor, xor-zero-r}
 use borrow.Rule.Slice.PartMut.{putMid}
@@ -67,6 +67,37 @@ filled-end {f} {i} {len} {old} {now} z hl h =
 
 pub put-next : (a k : ℕ) (p r ys : List ℕ) → length p ≡ a → putMid a k (p ++ r) ys ≡ (p ++ ys) ++ drop k r
 put-next a k p r ys h = rw (take-at p r a h, drop-at p r a h, append-assoc)
+
+-- a part of k bytes that was lent from `at` and came back as ys, byte by byte
+
+module _ (at k : ℕ) (now ys : List ℕ) (h : at + k ≤ length now) (hy : length ys ≡ k) where
+  front : length (take at now) ≡ at
+  front = length-take-le at now (omega arith)
+
+  pub put-before : (p : ℕ) → p < at → getD (putMid at k now ys) p 0 ≡ getD now p 0
+  put-before p l = List·getD-append (take at now) _ 0 p (omega (arith, front)) ∙ getD-take at now p 0 l
+
+  pub put-inside : (b : ℕ) → b < k → getD (putMid at k now ys) (at + b) 0 ≡ getD ys b 0
+  put-inside b l =
+      ap (λ (x : ℕ). getD (putMid at k now ys) (x + b) 0) (sym front)
+      ∙ getD-append-add (take at now) _ b 0 ∙ List·getD-append ys _ 0 b (omega arith)
+
+  pub put-after : (b : ℕ) → getD (putMid at k now ys) (at + (k + b)) 0 ≡ getD now (at + (k + b)) 0
+  put-after b =
+      ap (λ (x : ℕ). getD (putMid at k now ys) (x + (k + b)) 0) (sym front)
+      ∙ getD-append-add (take at now) _ (k + b) 0 ∙ ap (λ (x : ℕ). getD (ys ++ drop k (drop at now)) (x + b) 0) (sym hy)
+      ∙ getD-append-add ys _ b 0 ∙ getD-drop k (drop at now) b 0 ∙ getD-drop at now (k + b) 0
+
+  -- no byte outside the part changed
+  pub put-outside : (p : ℕ) → ((b : ℕ) → b < k → p ≡ at + b → ⊥) → getD (putMid at k now ys) p 0 ≡ getD now p 0
+  put-outside p n = side (decLt p at) (decLt p (at + k))
+    where
+      side : Dec (p < at) → Dec (p < at + k) → getD (putMid at k now ys) p 0 ≡ getD now p 0
+      side (yes l) d = put-before p l
+      side (no l) (yes u) = absurd (n (p - at) (omega arith) (omega arith))
+      side (no l) (no u) =
+          let e : at + (k + (p - (at + k))) ≡ p = omega arith in
+          ap (λ (x : ℕ). getD (putMid at k now ys) x 0) (sym e) ∙ put-after (p - (at + k)) ∙ ap (λ (x : ℕ). getD now x 0) e
 
 -- a part of k entries, lent from i to e and filled by a call
 pub filled-part : (k : ℕ) {f : ℕ → ℕ} {i e : ℕ} {old now ys : List ℕ} → Filled f i old now → e ≡ i + k → e ≤ length old

@@ -4,3 +4,4 @@ pub mod Fill
 pub mod First
 pub mod Verdicts
 pub mod Padding
+pub mod Bits

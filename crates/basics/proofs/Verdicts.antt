@@ -1,11 +1,11 @@
 -- Laws of verdicts: how a chain of checks goes on or stops, what a passed check says, what the outputs hold, and that a contract has one result. Assumes nothing.
 use mathlib.Core.Path.{_≡_, refl, sym, ap, ap₂, _∙_}
-use mathlib.Core.Bool.{Bool, true, false}
+use mathlib.Core.Bool.{Bool, true, false, not}
 use mathlib.Core.List.{List}
 use Prim.Native.Nat.{ℕ, _+_, _<_, _≤_}
 use native.Mathlib.Omega.{arith}
 use lib.Dec.{eqb}
-use borrow.Author.Tests.{eq-eqb, ne-eqb, eqb-true, eqb-false}
+use borrow.Author.Tests.{not-true, not-false, eq-eqb, ne-eqb, eqb-true, eqb-false}
 use Rattle.basics.specs.declared.Verdict.{Verdict}
 use Rattle.basics.specs.Choice.{pick}
 use Rattle.basics.specs.First.{firstAt}
@@ -36,6 +36,40 @@ stop {v} {a} b e h = e ∙ sym (rw (ne-eqb (a .code) 0 (λ z. h (ap (λ (x : Ver
 pub go : {v a w b : Verdict} → v ≡ a → v .code ≡ 0 → w ≡ b → w ≡ orElse a b
 unfolding orElse
 go {v} {a} {w} {b} e z f = f ∙ sym (rw (eq-eqb (a .code) 0 (sym (ap (λ (x : Verdict). x .code) e) ∙ z)))
+
+-- the same for a check by `unless`
+
+pub unless-stop : {b t : Bool} {code place : ℕ} (next : Verdict) → b ≡ t → not b ≡ true → at code place ≡ unless t code place next
+unfolding unless
+unless-stop {b} {t} next e h = sym (rw (sym e ∙ not-true b h))
+
+pub unless-go : {b t : Bool} {v next : Verdict} (code place : ℕ) → b ≡ t → not b ≡ false → v ≡ next → v ≡ unless t code place next
+unfolding unless
+unless-go {b} {t} code place e h f = f ∙ sym (rw (sym e ∙ not-false b h))
+
+-- the same where the test is that two numbers are equal
+pub differ-stop : {a b code place : ℕ} (next : Verdict) → (a ≡ b → ⊥) → at code place ≡ unless (eqb a b) code place next
+unfolding unless
+differ-stop {a} {b} next h = sym (rw (ne-eqb a b h))
+
+pub equal-go : {a b : ℕ} {v next : Verdict} (code place : ℕ) → a ≡ b → v ≡ next → v ≡ unless (eqb a b) code place next
+unfolding unless
+equal-go {a} {b} code place h f = f ∙ sym (rw (eq-eqb a b h))
+
+-- ---- a verdict of code 0 is success
+
+pub unless-zero : (t : Bool) (code place : ℕ) (next : Verdict) → 0 < code → (next .code ≡ 0 → next ≡ pass) → unless t code place next .code ≡ 0 → unless t code place next ≡ pass
+unfolding unless
+unless-zero true code place next l z h = z h
+unless-zero false code place next l z h = absurd (omega arith)
+
+pub orElse-zero : (a b : Verdict) → (b .code ≡ 0 → b ≡ pass) → orElse a b .code ≡ 0 → orElse a b ≡ pass
+unfolding orElse
+orElse-zero a b z h = cases (eqb (a .code) 0) refl h
+  where
+    cases : (t : Bool) → eqb (a .code) 0 ≡ t → pick t b a .code ≡ 0 → pick t b a ≡ pass
+    cases true e h = z h
+    cases false e h = absurd (eqb-false (a .code) 0 e h)
 
 -- ---- the first place that fails
 

@@ -1,13 +1,13 @@
 -- Laws of gathering: the loop that gives each row one byte, and the loop over the bytes of a row. Assumes nothing.
 use mathlib.Core.Path.{_≡_, refl, sym, ap, ap₂, _∙_}
 use mathlib.Core.Bool.{Bool, true, false, _&&_}
-use mathlib.Core.List.{List, _++_}
+use mathlib.Core.List.{List}
 use Prim.Native.Nat.{ℕ, zero, suc, _+_, _-_, _*_, _/_, _%_, _≤_, _<_}
-use native.Mathlib.Nat.{mod-lt, div-add-mod', div-lt-iff-lt-mul, add-mul, one-mul, mul-assoc, mul-add-mod-self-right, mul-le-mul-right}
+use native.Mathlib.Nat.{mod-lt, div-add-mod', div-lt-iff-lt-mul, add-mul, mul-assoc, mul-add-mod-self-right, mul-le-mul-right}
 use native.Mathlib.Decide.{ℕ-discrete, decLt}
 use native.Mathlib.Omega.{arith}
-use lib.ListN.{length, getD, take, drop, set, length-set, length-take, length-drop, List·getD-append}
-use lib.Seq.{ext-getD, getD-set-same, getD-set-other, getD-take, getD-drop, getD-append-add, length-take-le}
+use lib.ListN.{length, getD, take, drop, set, length-set, length-take, length-drop}
+use lib.Seq.{ext-getD, getD-set-same, getD-set-other, getD-take, getD-drop}
 use lib.Arith.{digits-lt, digits-div, digits-mod}
 use lib.Dec.{eqb}
 use borrow.Rule.Slice.PartMut.{putMid, same-len-mid}
@@ -18,28 +18,9 @@ use Rattle.basics.specs.Bytes.{build, pack, bit, bitIn, lines}
 use Rattle.basics.specs.Padding.{colBytes}
 use Rattle.basics.proofs.Choice.{both, picked}
 use Rattle.basics.proofs.Bytes.{length-build, getD-build, build-is, pack-ext, pos-right}
+use Rattle.basics.proofs.Fill.{put-before, put-inside, put-after}
 use Rattle.columns.specs.Gathered.{gathered, gatheredEight, eightFit, rowsFit}
 use Rattle.columns.specs.Turned.{given}
-
--- ---- a part of k bytes that was lent from a and came back as ys, byte by byte
-
-module _ (a k : ℕ) (now ys : List ℕ) (h : a + k ≤ length now) (hy : length ys ≡ k) where
-  front : length (take a now) ≡ a
-  front = length-take-le a now (omega arith)
-
-  put-before : (p : ℕ) → p < a → getD (putMid a k now ys) p 0 ≡ getD now p 0
-  put-before p l = List·getD-append (take a now) _ 0 p (omega (arith, front)) ∙ getD-take a now p 0 l
-
-  put-inside : (b : ℕ) → b < k → getD (putMid a k now ys) (a + b) 0 ≡ getD ys b 0
-  put-inside b l =
-      ap (λ (x : ℕ). getD (putMid a k now ys) (x + b) 0) (sym front)
-      ∙ getD-append-add (take a now) _ b 0 ∙ List·getD-append ys _ 0 b (omega arith)
-
-  put-after : (b : ℕ) → getD (putMid a k now ys) (a + (k + b)) 0 ≡ getD now (a + (k + b)) 0
-  put-after b =
-      ap (λ (x : ℕ). getD (putMid a k now ys) (x + (k + b)) 0) (sym front)
-      ∙ getD-append-add (take a now) _ (k + b) 0 ∙ ap (λ (x : ℕ). getD (ys ++ drop k (drop a now)) (x + b) 0) (sym hy)
-      ∙ getD-append-add ys _ b 0 ∙ getD-drop k (drop a now) b 0 ∙ getD-drop a now (k + b) 0
 
 -- ---- rows of `width` bytes in which the first j have f at their byte g, and which hold what they held at every other byte
 
@@ -144,9 +125,6 @@ rows-within m width j k h = rw (← add-mul) (mul-le-mul-right width h)
 
 pub rows-rest : (m width j k : ℕ) → j + k ≡ m → m * width - j * width ≡ k * width
 rows-rest m width j k h = omega (arith, add-mul j k width, ap (λ (x : ℕ). x * width) h)
-
-pub row-next : (width j : ℕ) → (j + 1) * width ≡ j * width + width
-row-next width j = add-mul j 1 width ∙ ap (λ (x : ℕ). j * width + x) (one-mul width)
 
 -- ---- rows whose bytes below g are gathered from a set of columns
 

@@ -1,5 +1,4 @@
 pub mod Sets
 pub mod Gathered
 pub mod Sizes
-pub mod Bits
 pub mod Turned

@@ -14,10 +14,9 @@ use Rattle.basics.specs.Choice.{pick}
 use Rattle.basics.specs.Bytes.{pack, bit}
 use Rattle.basics.proofs.Choice.{both}
 use Rattle.basics.proofs.Bytes.{bit-small, bit-xor, pack-bit, pack-ext, pack-of, pack-small}
-use Rattle.words.proofs.Extra.{pack-append, pack-field}
+use Rattle.basics.proofs.Bits.{pack-append, pack-field, bit-and, bit-shr, bit-shl, bit-shl-low, bit-cut, every, every-at}
 use Rattle.columns.specs.Turned.{eightBytes, swapped, turned, byteOf}
 use Rattle.columns.specs.Gathered.{gathered}
-use Rattle.columns.proofs.Bits.{bit-and, bit-shr, bit-shl, bit-shl-low, bit-cut, every, every-at}
 
 -- ---- digits that differ
 

@@ -21,7 +21,7 @@ use Rattle.construction.specs.Paper.{Vector, inner}
 use Rattle.construction.specs.Transfer.{padOf, hashed, message, kept, answer, opened, taking}
 use Rattle.construction.specs.Agreement.{bytesOf, selections, stringsIn, oracle, HoldsColumns, HoldsSeeds, HoldsTaken, SendsW, KeepsT0, TakesQ, SendsY, RecoversZ, runY, Runs, PairsRepeat, ChoicesWalsh, PadsCount}
 use Rattle.basics.proofs.Bytes.{build-ext, build-is, bit-small, pack-ext, pack-of, bit-xor, length-line}
-use Rattle.construction.proofs.Extra.{num, num-of, line-bytes, bitAt-line}
+use Rattle.basics.proofs.Bits.{num, num-of, line-bytes, bitAt-line}
 use Rattle.construction.proofs.Bytewise.{length-select, select-bit, length-message, length-kept, kept-bytes, length-expand, expand-bit, length-hashed, hashed-bit, hashed-bytes, message-bit, kept-bit, length-taking, taking-bit, taking-bytes, answer-byte, opened-byte}
 
 -- ---- bits: `differ` is the sum modulo 2, and `min` the product

@@ -17,11 +17,11 @@ use Rattle.basics.specs.Bytes.{build, pack, bit, bitAt, line, bitIn, _⊕_, _�
 use Rattle.basics.specs.Padding.{colBytes, padded}
 use Rattle.words.specs.Code.{Code, k, wordBytes}
 use Rattle.construction.specs.Transfer.{Columns, Selections, cleared, columnOf, padOf, select, hashed, expand, chosen, rows, message, kept, taking, masking, answer, opened, selected}
-use Rattle.basics.proofs.Choice.{picked}
+use Rattle.basics.proofs.Choice.{picked, unpicked, pick-small, byBit-small}
 use Rattle.basics.proofs.Padding.{padded-clear}
 use Rattle.words.proofs.Words.{length-word, word-byte, word-bytes, word-place}
-use Rattle.construction.proofs.Extra.{take-bytes, line-build, unpicked, pick-small, byBit-small, pack-low, and-bytes, line-bytes, bitAt-line, bitAt-xor, bitAt-and, bitIn-xor}
 use Rattle.basics.proofs.Bytes.{length-build, getD-build, build-ext, build-bytes, bit-small, pack-bit, pack-ext, pack-small, pack-of, xor-pack, bit-xor, length-lines, lines-byte, bitIn-lines, lines-bytes, length-xor, getD-xor, getD-and, xor-bytes, getD-line, length-line, pos-right}
+use Rattle.basics.proofs.Bits.{take-bytes, line-build, pack-low, and-bytes, line-bytes, bitAt-line, bitAt-xor, bitAt-and, bitIn-xor}
 
 -- ---- what the checks of a call tell
 

@@ -1,5 +1,4 @@
 -- The laws of the definitions, and the theorems that `specs/` states.
-pub mod Extra
 pub mod Bytewise
 pub mod Rows
 pub mod Agreement

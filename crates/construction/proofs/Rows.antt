@@ -13,8 +13,8 @@ use Rattle.basics.specs.Padding.{colBytes}
 use Rattle.words.specs.Code.{Code, k, wordBytes}
 use Rattle.construction.specs.Transfer.{select, hashed, message, kept, taking}
 use Rattle.basics.proofs.Bytes.{bit-small, xor-bytes, length-xor, xor-undoes, length-line}
+use Rattle.basics.proofs.Bits.{num, num-of, and-bytes, line-bytes, bitAt-line, bitAt-xor, bitAt-and, bits-ext}
 use Rattle.words.proofs.Words.{length-word, word-bytes, word-place}
-use Rattle.construction.proofs.Extra.{num, num-of, and-bytes, line-bytes, bitAt-line, bitAt-xor, bitAt-and, bits-ext}
 use Rattle.construction.proofs.Bytewise.{select-bit, length-message, message-bit, length-kept, kept-bit, kept-bytes, length-taking, taking-bit, taking-bytes}
 
 -- ---- one bit

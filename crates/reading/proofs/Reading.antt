@@ -12,10 +12,10 @@ use borrow.Author.Tests.{eq-eqb, ne-eqb, le-leb}
 use Rattle.basics.specs.declared.Verdict.{Verdict}
 use Rattle.basics.specs.Choice.{pick}
 use Rattle.basics.specs.Verdicts.{pass, unless}
+use Rattle.basics.proofs.Verdicts.{unless-zero}
 use Rattle.wire.specs.declared.Shape.{Shape}
 use Rattle.wire.specs.Shapes.{verdictOf, lengthOf}
 use Rattle.wire.specs.Message.{sessionAt, blockHeaderAt, blockAt, header, messageOf, headerOk}
-use Rattle.wire.proofs.Extra.{unless-zero}
 use Rattle.wire.proofs.Shapes.{shape-zero}
 use Rattle.wire.proofs.Received.{own-tag, own-first, own-second, own-third, own-session, own-block, own-length}
 use Rattle.reading.specs.declared.Cursor.{Cursor}

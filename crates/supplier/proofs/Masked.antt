@@ -1,17 +1,18 @@
 -- Laws of masking: the row that is hashed, the string of one row and place, and the loops over rows and over places. Assumes nothing.
 use mathlib.Core.Path.{_≡_, refl, sym, ap, ap₂, _∙_}
-use mathlib.Core.List.{List, _++_}
+use mathlib.Core.List.{List}
 use Prim.Native.Nat.{ℕ, zero, suc, _+_, _-_, _*_, _/_, _%_, _≤_, _<_, min}
 use native.Mathlib.Nat.{mod-lt, div-add-mod', div-lt-iff-lt-mul, add-mul}
-use native.Mathlib.Decide.{decLt, ℕ-discrete}
+use native.Mathlib.Decide.{ℕ-discrete}
 use native.Mathlib.Omega.{arith}
 use lib.Arith.{digits-lt, digits-div, digits-mod}
 use lib.Bits.{bitXor, bitAnd}
-use lib.ListN.{length, getD, take, drop, length-take, length-drop, length-append, List·getD-append}
-use lib.Seq.{ext-getD, getD-take, getD-drop, getD-append-add, length-take-le}
+use lib.ListN.{length, getD, take, drop, length-take, length-drop}
+use lib.Seq.{ext-getD, getD-take, getD-drop}
 use borrow.Rule.Slice.PartMut.{putMid, same-len-mid}
 use Rattle.basics.specs.Bytes.{build, line, _⊕_, _⊙_}
 use Rattle.basics.proofs.Bytes.{length-build, getD-build, build-is, build-ext, length-line, getD-and, pos-right, mul-le-both, line-next, line-within}
+use Rattle.basics.proofs.Fill.{put-inside, put-outside}
 use Rattle.words.specs.Code.{Code, codeOf, wordBytes}
 use Rattle.words.proofs.Words.{length-word}
 use Rattle.construction.specs.Transfer.{hashed, masking}
@@ -73,37 +74,6 @@ masked-agrees mode m n l session secret q s t r i b hr hi hb e =
     masking-byte (codeOf mode) (padBytes session l) m n l secret q s i r b hi hr hb
     ∙ ap (λ (x : ℕ). bitXor x (getD (padBytes session l i (hashed (codeOf mode) secret q i r)) b 0)) e
     ∙ sym (masking-byte (codeOf mode) (padBytes session l) m n l secret q t i r b hi hr hb)
-
--- ---- a part of k bytes that was lent from `at` and came back as ys, byte by byte
-
-module _ (at k : ℕ) (now ys : List ℕ) (h : at + k ≤ length now) (hy : length ys ≡ k) where
-  front : length (take at now) ≡ at
-  front = length-take-le at now (omega arith)
-
-  put-before : (p : ℕ) → p < at → getD (putMid at k now ys) p 0 ≡ getD now p 0
-  put-before p l = List·getD-append (take at now) _ 0 p (omega (arith, front)) ∙ getD-take at now p 0 l
-
-  put-inside : (b : ℕ) → b < k → getD (putMid at k now ys) (at + b) 0 ≡ getD ys b 0
-  put-inside b l =
-      ap (λ (x : ℕ). getD (putMid at k now ys) (x + b) 0) (sym front)
-      ∙ getD-append-add (take at now) _ b 0 ∙ List·getD-append ys _ 0 b (omega arith)
-
-  put-after : (b : ℕ) → getD (putMid at k now ys) (at + (k + b)) 0 ≡ getD now (at + (k + b)) 0
-  put-after b =
-      ap (λ (x : ℕ). getD (putMid at k now ys) (x + (k + b)) 0) (sym front)
-      ∙ getD-append-add (take at now) _ (k + b) 0 ∙ ap (λ (x : ℕ). getD (ys ++ drop k (drop at now)) (x + b) 0) (sym hy)
-      ∙ getD-append-add ys _ b 0 ∙ getD-drop k (drop at now) b 0 ∙ getD-drop at now (k + b) 0
-
-  -- no byte outside the part changed
-  pub put-outside : (p : ℕ) → ((b : ℕ) → b < k → p ≡ at + b → ⊥) → getD (putMid at k now ys) p 0 ≡ getD now p 0
-  put-outside p n = side (decLt p at) (decLt p (at + k))
-    where
-      side : Dec (p < at) → Dec (p < at + k) → getD (putMid at k now ys) p 0 ≡ getD now p 0
-      side (yes l) d = put-before p l
-      side (no l) (yes u) = absurd (n (p - at) (omega arith) (omega arith))
-      side (no l) (no u) =
-          let e : at + (k + (p - (at + k))) ≡ p = omega arith in
-          ap (λ (x : ℕ). getD (putMid at k now ys) x 0) (sym e) ∙ put-after (p - (at + k)) ∙ ap (λ (x : ℕ). getD now x 0) e
 
 -- ---- the loop over the rows, at one place
 

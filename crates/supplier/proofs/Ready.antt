@@ -54,6 +54,10 @@ pub record Ready (seeded : Bool) (mode m n l : ℕ) (session secret taken string
   pub received-long : length received ≡ blockAt + kOf mode * colBytes m
 
 module _ (seeded : Bool) (mode m n l : ℕ) (session secret taken strings received : List ℕ) (message : ℕ) where
+  pub ready-shape : answerVerdict seeded mode m n l session secret taken strings received message .code ≡ 0 → Passes mode m n l
+  unfolding answerVerdict
+  ready-shape h = shape-ok mode m n l (orElse-ok _ _ h .0)
+
   pub ready : answerVerdict seeded mode m n l session secret taken strings received message .code ≡ 0 → Bytes received
       → Ready seeded mode m n l session secret taken strings received message
   unfolding answerVerdict blockLength
@@ -63,7 +67,7 @@ module _ (seeded : Bool) (mode m n l : ℕ) (session secret taken strings receiv
       let c = orElse-ok _ _ (b .1) in
       let f = lengths-ok seeded mode m n l (length session) (length secret) (length taken) (length strings) message (b .0) in
       record {
-        shape = shape-ok mode m n l (a .0);
+        shape = ready-shape h;
         lengths = f;
         received-long = received-ok 3 (blockLength 3 mode m n l) mode m n l session received bytes (f .session-long) (c .1) .long;
       }

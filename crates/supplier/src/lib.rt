@@ -2,7 +2,7 @@
 // and the strings are masked straight into the message.
 ghost use mathlib.Core.Path.{_≡_};
 ghost use mathlib.Core.Bool.{true, false};
-ghost use Prim.Native.Nat.{_+_, _<_};
+ghost use Prim.Native.Nat.{_+_, _*_, _<_, _≤_};
 ghost use lib.ListN.{length};
 ghost use Rattle.wire.specs.Message.{messageOf};
 ghost use Rattle.supplier.specs.Masking.{MaskFit};
@@ -21,6 +21,9 @@ use wire::Shape;
 use wire::write_header;
 
 const TAG_STRINGS: u8 = 4;
+
+// As many rows as 1 KiB holds in either mode.
+const FEW_ROWS: u16 = 32;
 
 // Writes the message of masked strings, from the rows q.
 fn write_masked(
@@ -50,7 +53,7 @@ fn write_answer(
     work: &mut [u8],
     message: &mut [u8],
 )
-    requires { ⌜ (answerVerdict seeded (s .mode) (s .rows) (s .places) (s .bytes) (now session) (now secret) (now taken) (now strings) (now received) (length (now message)) .code ≡ 0) × (length (now work) ≡ 32768) ⌝ }
+    requires { ⌜ (answerVerdict seeded (s .mode) (s .rows) (s .places) (s .bytes) (now session) (now secret) (now taken) (now strings) (now received) (length (now message)) .code ≡ 0) × (s .rows * 32 ≤ length (now work)) ⌝ }
     ensures { λ _. ⌜ now (message .exit) ≡ answerMessage seeded (s .mode) (s .rows) (s .places) (s .bytes) (now (session .entry)) (now (secret .entry)) (now (taken .entry)) (now (strings .entry)) (now (received .entry)) ⌝ }
 {
     let n = (s.rows as usize) * row_bytes(s.mode);
@@ -65,6 +68,49 @@ fn write_answer(
         &mut work[0..n],
     );
     write_masked(s, session, secret, &work[0..n], strings, message);
+}
+
+// The same with a workspace of its own. For few rows it is a small one, since clearing the other would take longer than their masking.
+fn write_sized(
+    seeded: bool,
+    s: Shape,
+    session: &[u8],
+    secret: &[u8],
+    taken: &[u8],
+    strings: &[u8],
+    received: &[u8],
+    message: &mut [u8],
+)
+    requires { ⌜ answerVerdict seeded (s .mode) (s .rows) (s .places) (s .bytes) (now session) (now secret) (now taken) (now strings) (now received) (length (now message)) .code ≡ 0 ⌝ }
+    ensures { λ _. ⌜ now (message .exit) ≡ answerMessage seeded (s .mode) (s .rows) (s .places) (s .bytes) (now (session .entry)) (now (secret .entry)) (now (taken .entry)) (now (strings .entry)) (now (received .entry)) ⌝ }
+{
+    if s.rows <= FEW_ROWS {
+        let mut work = [0u8; 1024];
+        write_answer(
+            seeded,
+            s,
+            session,
+            secret,
+            taken,
+            strings,
+            received,
+            &mut work,
+            message,
+        );
+    } else {
+        let mut work = [0u8; 32768];
+        write_answer(
+            seeded,
+            s,
+            session,
+            secret,
+            taken,
+            strings,
+            received,
+            &mut work,
+            message,
+        );
+    }
 }
 
 // The two forms: `seeded` says where the taken columns come from, and nothing else.
@@ -93,8 +139,7 @@ fn answer(
     if v.code != 0 {
         return v;
     }
-    let mut work = [0u8; 32768];
-    write_answer(
+    write_sized(
         seeded,
         s,
         session,
@@ -102,7 +147,6 @@ fn answer(
         taken,
         strings,
         received,
-        &mut work,
         message,
     );
     v

@@ -1,4 +1,3 @@
-pub mod Extra
 pub mod Shapes
 pub mod Message
 pub mod Received

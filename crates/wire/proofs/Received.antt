@@ -16,11 +16,11 @@ use Rattle.basics.specs.Bytes.{Bytes, bit, be16At}
 use Rattle.basics.specs.Padding.{padded, Clear}
 use Rattle.basics.specs.Verdicts.{pass, unless, orElse, atFirst}
 use Rattle.basics.proofs.Padding.{padded-clear, clear-padded}
-use Rattle.basics.proofs.Verdicts.{go, unless-ok, orElse-ok, atFirst-ok, atFirst-none}
+use Rattle.basics.proofs.Verdicts.{go, unless-ok, orElse-ok, atFirst-ok, atFirst-none, unless-go, equal-go}
+use Rattle.basics.proofs.Choice.{both}
 use Rattle.wire.specs.Shapes.{kOf, blockLength}
 use Rattle.wire.specs.Message.{blockAt, fieldHeader, shapeBytes, header, messageOf, headerOk}
 use Rattle.wire.specs.Received.{differs, paddingVerdict, blockVerdict, receivedVerdict, received}
-use Rattle.wire.proofs.Extra.{and-true, unless-go, equal-go}
 use Rattle.wire.proofs.Message.{length-header}
 
 -- ---- differs
@@ -44,8 +44,8 @@ pub header-read : (message : List ℕ) (at tag len : ℕ) → Bytes message → 
     → (drop at message ≡ fieldHeader tag len ++ drop (at + 3) message) × (at + 3 + len ≤ length message)
 unfolding headerOk
 header-read message at tag len bytes h =
-    let a = and-true _ _ h in
-    let b = and-true _ _ (a .1) in
+    let a = both _ _ h in
+    let b = both _ _ (a .1) in
     let fits : at + 3 + len ≤ length message = leb-true _ _ (a .0) in
     let t0 : getD message at 0 ≡ tag = eqb-true _ _ (b .0) in
     let both : getD message (at + 1) 0 * 256 + getD message (at + 1 + 1) 0 ≡ len = eqb-true _ _ (b .1) in

@@ -10,9 +10,9 @@ use Rattle.basics.specs.Choice.{pick}
 use Rattle.basics.specs.Padding.{colBytes}
 use Rattle.basics.specs.Verdicts.{pass}
 use Rattle.basics.proofs.Bytes.{mul-le-both}
-use Rattle.basics.proofs.Verdicts.{unless-ok}
+use Rattle.basics.proofs.Verdicts.{unless-ok, unless-zero}
+use Rattle.basics.proofs.Choice.{both}
 use Rattle.wire.specs.Shapes.{kOf, mostPlaces, within, mostRows, mostBytes, mostVolume, shapeVerdict, blockLength, Width}
-use Rattle.wire.proofs.Extra.{and-true, unless-zero}
 
 -- ---- k
 
@@ -36,7 +36,7 @@ width mode = record { is = refl; low = low (eqb mode 2); high = high (eqb mode 2
 
 pub within-true : (low x high : ℕ) → within low x high ≡ true → (low ≤ x) × (x ≤ high)
 within-true low x high h =
-    let b = and-true (leb low x) (leb x high) h in
+    let b = both (leb low x) (leb x high) h in
     (leb-true low x (b .0), leb-true x high (b .1))
 
 pub record Passes (mode m n l : ℕ) : Type 0 where

@@ -1,13 +1,12 @@
 -- `supplier::write_answer` meets its contract: the rows are taken into the front of the workspace, and masking starts from them. Assumes nothing.
 use borrow.Author.Needs.{needs}
 use native.Mathlib.Omega.{arith}
-use native.Mathlib.Nat.{sub-zero}
+use native.Mathlib.Nat.{sub-zero, mul-le-mul-left}
 use mathlib.Core.Path.{_≡_, refl, sym, ap, ap₂, _∙_}
 use mathlib.Core.List.{List}
 use Prim.Native.Nat.{ℕ, _+_, _-_, _*_, _≤_, _<_}
 use lib.ListN.{length, take, drop, length-take, length-drop, length-append}
 use borrow.Rule.Slice.PartMut.{putMid}
-use Rattle.basics.proofs.Bytes.{mul-le-both}
 use Rattle.words.specs.Code.{codeOf}
 use Rattle.construction.proofs.Bytewise.{length-taking}
 use Rattle.wire.specs.Message.{messageOf}
@@ -32,8 +31,8 @@ module _ (c : tie.After-row-bytes) where
       ready (a .seeded) (a .s .mode) (a .s .rows) (a .s .places) (a .s .bytes) (a .session .now) (a .secret .now) (a .taken .now) (a .strings .now) (a .received .now)
       (length (a .message .now)) (start .pre .0) (λ p. omega (arith, c .before .before .before .before .shared-slice-known5 .given p))
 
-  few : count ≤ 32768
-  few = mul-le-both (start .args .s .rows) (c .row-bytes .result) 1024 32 (known .shape .rows-few) (c .row-bytes .ensures .high)
+  few : count ≤ start .args .s .rows * 32
+  few = mul-le-mul-left (start .args .s .rows) (c .row-bytes .ensures .high)
 
   rows-long : count ≡ start .args .s .rows * codeOf (start .args .s .mode) .width
   rows-long = ap (λ (x : ℕ). start .args .s .rows * x) (c .row-bytes .ensures .is)
@@ -89,7 +88,7 @@ write-answer-spec =
     (tie.spec
     (λ c. search needs)
     (λ c κs. search needs)
-    (λ c. omega (arith, few c))
+    (λ c. omega (arith, few c, known c .shape .rows-few))
     (λ c. omega (arith, known c .received-long))
     (λ c. omega (arith, known c .received-long))
     (λ c. search needs)

@@ -9,7 +9,7 @@ use borrow.Author.Needs.{needs}
 use lib.ListN.{length, take, drop, length-take, length-drop}
 use Rattle.basics.specs.Padding.{colBytes}
 use Rattle.basics.proofs.Fill.{Filled, filled-none, filled-part, filled-end}
-use Rattle.columns.proofs.Gathered.{row-next}
+use Rattle.basics.proofs.Bytes.{line-next}
 use Rattle.columns.proofs.Sets.{added, added-part, added-all}
 use Rattle.columns.proofs.adding.add_expanded.Statement.{statement}
 use Rattle.columns.proofs.adding.add_expanded.Tie as tie
@@ -29,7 +29,7 @@ inside l h =
     let c = colBytes (s .args .m) in
     let end : (l .loop .i + 1) * c ≤ s .args .count * c = mul-le-mul-right c (omega arith) in
     let long : length (s .args .block .now) ≡ s .args .count * c = s .pre .5 ∙ ap (λ (n : ℕ). s .args .count * n) (s .pre .2) in
-    (omega (arith, row-next c (l .loop .i), s .pre .2), omega arith)
+    (omega (arith, line-next c (l .loop .i), s .pre .2), omega arith)
 
 add-column-requires : tie.Need-add-column-requires Inv-loop μ-loop
 add-column-requires c κs =
@@ -51,7 +51,7 @@ loop-again c =
           ∙ added-part m (l .loop .i) (l .loop .a) (l .loop .a + s .args .c) (s .args .session .now) (s .args .seeds .now) (l .loop .inv .0) (l .loop .inv .2) end (room .0)
           (ap (λ (n : ℕ). take n (drop (l .loop .i * 32) (s .args .seeds .now))) size)),
       omega arith,
-      omega (arith, row-next (colBytes m) (l .loop .i)),
+      omega (arith, line-next (colBytes m) (l .loop .i)),
     )
 
 returns : tie.Need-returns Inv-loop μ-loop

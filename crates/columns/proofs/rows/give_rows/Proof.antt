@@ -8,7 +8,8 @@ use borrow.Author.Needs.{needs}
 use lib.ListN.{length, take, drop, length-take, length-drop}
 use Rattle.basics.specs.Padding.{colBytes}
 use Rattle.basics.proofs.Choice.{picked}
-use Rattle.columns.proofs.Gathered.{Rowed, rowed-none, rowed-more, rowed-end, eight-fit-holds, row-next}
+use Rattle.basics.proofs.Bytes.{line-next}
+use Rattle.columns.proofs.Gathered.{Rowed, rowed-none, rowed-more, rowed-end, eight-fit-holds}
 use Rattle.columns.proofs.rows.give_rows.Statement.{statement}
 use Rattle.columns.proofs.rows.give_rows.Tie as tie
 
@@ -24,7 +25,7 @@ inside : (l : tie.At-loop Inv-loop μ-loop) → l .loop .g < l .before .before .
 inside l h =
     let a = l .before .before .before .args in
     let end : (l .loop .g + 1) * (8 * colBytes (a .rows)) ≤ a .width * (8 * colBytes (a .rows)) = mul-le-mul-right (8 * colBytes (a .rows)) (omega arith) in
-    omega (arith, row-next (8 * colBytes (a .rows)) (l .loop .g), l .before .before .before .pre .0)
+    omega (arith, line-next (8 * colBytes (a .rows)) (l .loop .g), l .before .before .before .pre .0)
 
 loop-again : tie.Need-loop-again Inv-loop μ-loop
 loop-again c =
@@ -41,7 +42,7 @@ loop-again c =
           (c .before .before .gather-eight .ensures
           ∙ picked _ _ (eight-fit-holds m (s .args .width) (l .loop .g) (length part) (length (l .loop .out)) long (l .loop .inv .0 .long ∙ s .pre .1) h)),
       omega arith,
-      omega (arith, row-next (8 * colBytes m) (l .loop .g)),
+      omega (arith, line-next (8 * colBytes m) (l .loop .g)),
     )
 
 returns : tie.Need-returns Inv-loop μ-loop

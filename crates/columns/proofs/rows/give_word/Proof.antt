@@ -4,9 +4,9 @@ use Prim.Native.Nat.{ℕ, _+_, _-_, _*_, _≤_, _<_}
 use native.Mathlib.Omega.{arith}
 use borrow.Author.Needs.{needs}
 use lib.ListN.{length}
-use Rattle.basics.proofs.Bytes.{mul-le-both}
+use Rattle.basics.proofs.Bytes.{mul-le-both, line-next}
 use Rattle.columns.specs.Turned.{byteOf}
-use Rattle.columns.proofs.Gathered.{Given, given-none, given-more, given-end, row-at, row-next}
+use Rattle.columns.proofs.Gathered.{Given, given-none, given-more, given-end, row-at}
 use Rattle.columns.proofs.rows.give_word.Statement.{statement}
 use Rattle.columns.proofs.rows.give_word.Tie as tie
 
@@ -30,7 +30,7 @@ loop-again c =
     let a = l .before .args in (
       given-more (l .loop .inv .0) (omega arith) (l .loop .inv .2) (omega (arith, inside l (c .loop-test .taken))) refl,
       omega arith,
-      omega (arith, row-next (a .width) (l .loop .i)),
+      omega (arith, line-next (a .width) (l .loop .i)),
     )
 
 returns : tie.Need-returns Inv-loop μ-loop

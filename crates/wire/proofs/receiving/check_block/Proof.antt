@@ -1,9 +1,9 @@
 -- `check_block` meets its contract: each check stops the chain or hands on. Assumes nothing.
 use Rattle.wire.specs.Received.{blockVerdict}
-use Rattle.wire.proofs.Extra.{unless-stop, unless-go, differ-stop, equal-go}
 use borrow.Author.Needs.{needs}
 use Rattle.wire.proofs.receiving.check_block.Statement.{statement}
 use Rattle.wire.proofs.receiving.check_block.Tie as tie
+use Rattle.basics.proofs.Verdicts.{unless-stop, unless-go, differ-stop, equal-go}
 
 returns : tie.Need-returns
 unfolding blockVerdict

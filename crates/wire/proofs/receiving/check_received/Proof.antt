@@ -1,7 +1,6 @@
 -- `check_received` meets its contract: each check stops the chain or hands on. Assumes nothing.
-use Rattle.basics.proofs.Verdicts.{stop, go}
+use Rattle.basics.proofs.Verdicts.{stop, go, unless-stop, unless-go}
 use Rattle.wire.specs.Received.{receivedVerdict}
-use Rattle.wire.proofs.Extra.{unless-stop, unless-go}
 use borrow.Author.Needs.{needs}
 use Rattle.wire.proofs.receiving.check_received.Statement.{statement}
 use Rattle.wire.proofs.receiving.check_received.Tie as tie
