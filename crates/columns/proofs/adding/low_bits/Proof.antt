@@ -9,7 +9,7 @@ use Rattle.columns.proofs.adding.low_bits.Statement.{statement}
 use Rattle.columns.proofs.adding.low_bits.Tie as tie
 
 rem-result : tie.Need-rem-result
-rem-result c = rw (c .power .ensures) (pow-pos (c .before .before .args .u))
+rem-result c = rw (c .power .ensures) (pow-pos _)
 
 cast-result : tie.Need-cast-result
 cast-result c = omega (arith, mod-le (c .before .wide .result) (c .power .result), c .before .wide .ensures .1)
