@@ -10,12 +10,10 @@ ghost use Rattle.words.specs.Code.{k, codeOf};
 ghost use Rattle.construction.specs.Transfer.{chosen};
 ghost use Rattle.buyer.specs.Chosen.{placeByte, Begins, addedBytes};
 use basics::byte_or_zero;
+use wire::CHOICES;
 
 // The most columns of a batch.
 const MOST_COLUMNS: usize = 256;
-
-// Mode 2.
-const CHOICES: u8 = 2;
 
 // Place i of word r, from the bits of r.
 fn place_of(mode: u8, r: u8, i: usize) -> u8

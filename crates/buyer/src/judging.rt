@@ -10,19 +10,14 @@ use basics::Verdict;
 use basics::refuse_padded;
 use basics::refuse_unless;
 use columns::entry_bytes;
+use wire::BLOCK_AT;
+use wire::SESSION_BYTES;
 use wire::Shape;
+use wire::TAG_STRINGS;
 use wire::check_received;
 use wire::column_bytes;
 use wire::columns_of;
 use wire::judge_shape;
-
-const SESSION_BYTES: usize = 12;
-
-// Where a message's block begins.
-const BLOCK_AT: usize = 27;
-
-// Masked strings.
-const TAG_STRINGS: u8 = 4;
 
 // Refusals 6 and 7 of prepare.
 fn judge_lengths(

@@ -10,6 +10,7 @@ use basics::Verdict;
 use basics::copy;
 use columns::row_bytes;
 use pads::mask;
+use wire::BLOCK_AT;
 use wire::Shape;
 
 // One row opened from its masked string.
@@ -81,6 +82,6 @@ pub(crate) fn open_received(
     if verdict.code != 0 {
         return verdict;
     }
-    open_rows(s, session, selections, kept, &received[27..], opened);
+    open_rows(s, session, selections, kept, &received[BLOCK_AT..], opened);
     verdict
 }

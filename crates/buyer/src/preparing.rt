@@ -15,11 +15,11 @@ use basics::Verdict;
 use basics::clear;
 use columns::add_set;
 use columns::gather_rows;
+use wire::BLOCK_AT;
 use wire::Shape;
+use wire::TAG_COLUMNS;
 use wire::columns_of;
 use wire::write_header;
-
-const TAG_COLUMNS: u8 = 3;
 
 // Puts the second set's columns xor D into a block: their rows are the kept rows.
 fn put_second(
@@ -71,8 +71,8 @@ fn put_header(s: Shape, session: &[u8], message: &mut [u8])
     requires { ⌜ (length (now session) ≡ 12) × (27 ≤ length (now message)) × (length (now message) < 65536) ⌝ }
     ensures { λ _. ⌜ now (message .exit) ≡ header 3 (length (now (message .entry)) - 27) (s .mode) (s .rows) (s .places) (s .bytes) (now (session .entry)) ++ drop 27 (now (message .entry)) ⌝ }
 {
-    let len = message.len() - 27;
-    write_header(TAG_COLUMNS, len, s, session, &mut message[0..27]);
+    let len = message.len() - BLOCK_AT;
+    write_header(TAG_COLUMNS, len, s, session, &mut message[0..BLOCK_AT]);
 }
 
 // Both forms of prepare.
@@ -110,7 +110,7 @@ pub(crate) fn prepare(
         first,
         second,
         selections,
-        &mut message[27..],
+        &mut message[BLOCK_AT..],
         kept,
     );
     verdict

@@ -10,10 +10,12 @@ ghost use Rattle.symmetric.specs.ChaCha.{chacha20};
 ghost use Rattle.columns.specs.Sets.{seedColumn, expanded, columnsOf, entryBytes, setFit};
 use basics::wide;
 use basics::xor_into;
+use wire::SESSION_BYTES;
 use wire::column_bytes;
 
-// A seed's bytes.
-const SEED: usize = 32;
+pub const SEED_BYTES: usize = 32;
+
+const MOST_ROWS: u16 = 1024;
 
 // The first c bytes of a seed's keystream, into a workspace of 128 bytes. The second block is worked out only where c reaches it.
 fn keystream(c: usize, session: &[u8], seed: &[u8], work: &mut [u8])
@@ -72,8 +74,8 @@ fn add_expanded(count: usize, m: usize, c: usize, session: &[u8], seeds: &[u8], 
     let mut a = 0;
     while i < count {
         let e = a + c;
-        let at = i * SEED;
-        let end = at + SEED;
+        let at = i * SEED_BYTES;
+        let end = at + SEED_BYTES;
         add_column(m, c, session, &seeds[at..end], &mut block[a..e]);
         a = e;
         i += 1;
@@ -84,7 +86,11 @@ fn add_expanded(count: usize, m: usize, c: usize, session: &[u8], seeds: &[u8], 
 pub fn entry_bytes(seeded: bool, rows: u16) -> usize
     ensures { λ r. ⌜ (r ≡ entryBytes seeded rows) × (r ≤ 8192) ⌝ }
 {
-    if seeded { SEED } else { column_bytes(rows) }
+    if seeded {
+        SEED_BYTES
+    } else {
+        column_bytes(rows)
+    }
 }
 
 // A session of 12 bytes, a set of `count` entries, and a block of as many columns of 1 to 1,024 rows.
@@ -94,10 +100,10 @@ fn set_fit(seeded: bool, count: u16, rows: u16, session: usize, set: usize, bloc
     if rows < 1 {
         return false;
     }
-    if 1024 < rows {
+    if MOST_ROWS < rows {
         return false;
     }
-    if session != 12 {
+    if session != SESSION_BYTES {
         return false;
     }
     let k = count as usize;

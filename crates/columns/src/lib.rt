@@ -2,6 +2,7 @@
 mod adding;
 mod rows;
 
+pub use adding::SEED_BYTES;
 pub use adding::add_set;
 pub use adding::entry_bytes;
 pub use rows::gather_eight;

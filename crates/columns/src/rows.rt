@@ -9,6 +9,7 @@ ghost use Rattle.words.specs.Code.{codeOf};
 ghost use Rattle.construction.specs.Transfer.{rows as rowsOf};
 ghost use Rattle.columns.specs.Turned.{eightBytes, swapped, turned, byteOf, given};
 ghost use Rattle.columns.specs.Gathered.{gatheredEight, eightFit, rowsFit, RowBytes};
+use wire::CHOICES;
 
 // Byte number `byte` of each of eight columns of c bytes, as one number, the first column's lowest.
 fn eight_bytes(c: usize, eight: &[u8], byte: usize) -> u64
@@ -112,7 +113,7 @@ pub fn gather_eight(rows: u16, width: u8, g: usize, eight: &[u8], out: &mut [u8]
 pub fn row_bytes(mode: u8) -> usize
     ensures { λ r. ⌜ RowBytes mode r ⌝ }
 {
-    if mode == 2 { 32 } else { 16 }
+    if mode == CHOICES { 32 } else { 16 }
 }
 
 // Gives each of m rows its bytes in turn, eight columns for each.

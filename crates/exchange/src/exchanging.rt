@@ -1,9 +1,8 @@
 // An exchange by the rules (document 01, section 5): the steps of both parties in turn, each message delivered as it was sent.
 ghost use Rattle.exchange.specs.Exchanged.{Exchanged};
 use basics::Verdict;
+use columns::SEED_BYTES;
 use wire::Shape;
-
-const SEED_BYTES: usize = 32;
 
 // The buyer holds two sets of seeds and its selections, the supplier its secret and its strings. `taken` is what the base transfers
 // leave to the supplier, `kept` stays with the buyer, and `message` and `answer` are what travels. Gives back the first refusal.

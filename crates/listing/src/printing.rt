@@ -16,7 +16,10 @@ use crate::writing::put_hex;
 use basics::Verdict;
 use basics::byte_or_zero;
 use reading::walk;
+use wire::SESSION_BYTES;
+use wire::SESSION_VALUE_AT;
 use wire::Shape;
+use wire::TAG_COLUMNS;
 use wire::check_padding;
 
 // `columns` or `answers`, and the shape in decimal.
@@ -34,7 +37,7 @@ fn put_shape(l: Listing, tag: u8, shape: Shape) -> Listing
 fn put_kind(l: Listing, tag: u8) -> Listing
     ensures { λ r. ⌜ ((s : List ℕ) → l ≡ listed s → r ≡ listed (s ++ pick (eqb tag 3) columnsWord answersWord)) ⌝ }
 {
-    if tag == 3 {
+    if tag == TAG_COLUMNS {
         put(l, b"columns")
     } else {
         put(l, b"answers")
@@ -47,8 +50,8 @@ fn put_twelve(l: Listing, message: &[u8]) -> Listing
 {
     let mut out = l;
     let mut i: usize = 0;
-    while i < 12 {
-        out = put_hex(out, byte_or_zero(message, 12 + i));
+    while i < SESSION_BYTES {
+        out = put_hex(out, byte_or_zero(message, SESSION_VALUE_AT + i));
         i += 1;
     }
     out

@@ -4,6 +4,7 @@ ghost use Rattle.reading.specs.Readers.{readerOf, ReaderStepped};
 use crate::Reader;
 use crate::Step;
 use crate::walking::step_from;
+use wire::SHAPE_AT;
 use wire::Shape;
 
 // A reader before the first field.
@@ -12,7 +13,7 @@ pub fn new<'a>(message: &'a [u8]) -> Reader<'a>
 {
     Reader {
         message,
-        place: 0,
+        place: SHAPE_AT,
         shape: Shape {
             mode: 0,
             rows: 0,

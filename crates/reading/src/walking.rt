@@ -15,7 +15,18 @@ use crate::Walked;
 use basics::Verdict;
 use basics::byte_or_zero;
 use basics::refuse_unless;
+use wire::BLOCK_AT;
+use wire::BLOCK_HEADER_AT;
+use wire::SESSION_AT;
+use wire::SESSION_BYTES;
+use wire::SESSION_VALUE_AT;
+use wire::SHAPE_AT;
+use wire::SHAPE_BYTES;
 use wire::Shape;
+use wire::TAG_COLUMNS;
+use wire::TAG_SESSION;
+use wire::TAG_SHAPE;
+use wire::TAG_STRINGS;
 use wire::block_length;
 use wire::has_header;
 use wire::judge_shape;
@@ -31,7 +42,10 @@ pub fn start() -> Cursor
         places: 0,
         bytes: 0,
     };
-    Cursor { place: 0, shape }
+    Cursor {
+        place: SHAPE_AT,
+        shape,
+    }
 }
 
 // The shape in field 1's value.
@@ -50,16 +64,16 @@ fn shape_in(message: &[u8]) -> Shape
 fn is_block_tag(tag: u8) -> bool
     ensures { λ r. ⌜ r ≡ (eqb tag 3 || eqb tag 4) ⌝ }
 {
-    tag == 3 || tag == 4
+    tag == TAG_COLUMNS || tag == TAG_STRINGS
 }
 
 // Field 3's header has tag 3 or 4 with that tag's length.
 fn has_block(message: &[u8], shape: Shape) -> bool
     ensures { λ r. ⌜ r ≡ blockOk (now (message .entry)) shape ⌝ }
 {
-    let tag = byte_or_zero(message, 24);
+    let tag = byte_or_zero(message, BLOCK_HEADER_AT);
     if is_block_tag(tag) {
-        has_header(message, 24, tag, block_length(tag, shape))
+        has_header(message, BLOCK_HEADER_AT, tag, block_length(tag, shape))
     } else {
         false
     }
@@ -70,9 +84,9 @@ fn judge_first(message: &[u8]) -> Verdict
     ensures { λ r. ⌜ r ≡ unless (headerOk (now (message .entry)) 0 1 6) 10 0 (verdictOf (shapeIn (now (message .entry)))) ⌝ }
 {
     refuse_unless(
-        has_header(message, 0, 1, 6),
+        has_header(message, SHAPE_AT, TAG_SHAPE, SHAPE_BYTES),
         10,
-        0,
+        SHAPE_AT,
         judge_shape(shape_in(message)),
     )
 }
@@ -83,15 +97,20 @@ pub fn judge_step(message: &[u8], c: Cursor) -> Verdict
 {
     let place = c.place;
     let pass = Verdict { code: 0, place: 0 };
-    if place == 0 {
+    if place == SHAPE_AT {
         return judge_first(message);
     }
-    if place == 9 {
-        return refuse_unless(has_header(message, 9, 2, 12), 10, 9, pass);
+    if place == SESSION_AT {
+        return refuse_unless(
+            has_header(message, SESSION_AT, TAG_SESSION, SESSION_BYTES),
+            10,
+            SESSION_AT,
+            pass,
+        );
     }
     let shape = c.shape;
-    if place == 24 {
-        return refuse_unless(has_block(message, shape), 10, 24, pass);
+    if place == BLOCK_HEADER_AT {
+        return refuse_unless(has_block(message, shape), 10, BLOCK_HEADER_AT, pass);
     }
     refuse_unless(message.len() <= place, 10, place, pass)
 }
@@ -101,27 +120,36 @@ fn field_at(message: &[u8], c: Cursor) -> Step
     ensures { λ r. ⌜ r ≡ fieldAt (now (message .entry)) c ⌝ }
 {
     let place = c.place;
-    if place == 0 {
+    if place == SHAPE_AT {
         let shape = shape_in(message);
-        return Step::Shape(shape, Cursor { place: 9, shape });
+        return Step::Shape(
+            shape,
+            Cursor {
+                place: SESSION_AT,
+                shape,
+            },
+        );
     }
     let shape = c.shape;
-    if place == 9 {
+    if place == SESSION_AT {
         return Step::Session {
-            place: 12,
-            len: 12,
-            next: Cursor { place: 24, shape },
+            place: SESSION_VALUE_AT,
+            len: SESSION_BYTES,
+            next: Cursor {
+                place: BLOCK_HEADER_AT,
+                shape,
+            },
         };
     }
-    if place == 24 {
-        let tag = byte_or_zero(message, 24);
+    if place == BLOCK_HEADER_AT {
+        let tag = byte_or_zero(message, BLOCK_HEADER_AT);
         let len = block_length(tag, shape);
         return Step::Block {
             tag,
-            place: 27,
+            place: BLOCK_AT,
             len,
             next: Cursor {
-                place: 27 + len,
+                place: BLOCK_AT + len,
                 shape,
             },
         };
@@ -158,12 +186,30 @@ fn judge_walk(message: &[u8], shape: Shape, len: usize) -> Verdict
     let v4 = judge_step(
         message,
         Cursor {
-            place: 27 + len,
+            place: BLOCK_AT + len,
             shape,
         },
     );
-    let v3 = or_else(judge_step(message, Cursor { place: 24, shape }), v4);
-    let v2 = or_else(judge_step(message, Cursor { place: 9, shape }), v3);
+    let v3 = or_else(
+        judge_step(
+            message,
+            Cursor {
+                place: BLOCK_HEADER_AT,
+                shape,
+            },
+        ),
+        v4,
+    );
+    let v2 = or_else(
+        judge_step(
+            message,
+            Cursor {
+                place: SESSION_AT,
+                shape,
+            },
+        ),
+        v3,
+    );
     or_else(judge_step(message, start()), v2)
 }
 
@@ -172,7 +218,7 @@ pub fn walk(message: &[u8]) -> Walked
     ensures { λ r. ⌜ r ≡ walked (now (message .entry)) ⌝ }
 {
     let shape = shape_in(message);
-    let tag = byte_or_zero(message, 24);
+    let tag = byte_or_zero(message, BLOCK_HEADER_AT);
     let len = block_length(tag, shape);
     let verdict = judge_walk(message, shape, len);
     Walked {

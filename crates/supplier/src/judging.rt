@@ -7,15 +7,14 @@ use basics::Verdict;
 use basics::refuse_padded;
 use basics::refuse_unless;
 use columns::entry_bytes;
+use wire::BLOCK_AT;
+use wire::SESSION_BYTES;
 use wire::Shape;
+use wire::TAG_COLUMNS;
 use wire::check_received;
 use wire::columns_of;
 use wire::judge_shape;
 use wire::volume;
-
-const BLOCK_AT: usize = 27;
-
-const TAG_COLUMNS: u8 = 3;
 
 // Refusals 6 and 7.
 fn judge_lengths(
@@ -36,7 +35,7 @@ fn judge_lengths(
     let v4 = refuse_unless(strings == block, 6, 4, v5);
     let v3 = refuse_unless(taken == k * entry_bytes(seeded, s.rows), 6, 3, v4);
     let v2 = refuse_unless(secret == k / 8, 6, 2, v3);
-    refuse_unless(session == 12, 6, 1, v2)
+    refuse_unless(session == SESSION_BYTES, 6, 1, v2)
 }
 
 // Refusal 9, for columns that are handed in.

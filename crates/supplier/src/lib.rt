@@ -17,10 +17,10 @@ use columns::row_bytes;
 use judging::judge;
 use masking::mask_strings;
 use taking::take_rows;
+use wire::BLOCK_AT;
 use wire::Shape;
+use wire::TAG_STRINGS;
 use wire::write_header;
-
-const TAG_STRINGS: u8 = 4;
 
 // As many rows as 1 KiB holds in either mode.
 const FEW_ROWS: u16 = 32;
@@ -37,8 +37,14 @@ fn write_masked(
     requires { ⌜ MaskFit (s .mode) (s .rows) (s .places) (s .bytes) (length (now session)) (length (now secret)) (length (now rows)) (length (now strings)) × (length (now message) ≡ 27 + length (now strings)) × (length (now strings) < 65536) ⌝ }
     ensures { λ _. ⌜ now (message .exit) ≡ messageOf 4 (s .mode) (s .rows) (s .places) (s .bytes) (now (session .entry)) (maskedStrings (s .mode) (s .rows) (s .places) (s .bytes) (now (session .entry)) (now (secret .entry)) (now (rows .entry)) (now (strings .entry))) ⌝ }
 {
-    write_header(TAG_STRINGS, strings.len(), s, session, &mut message[0..27]);
-    mask_strings(s, session, secret, rows, strings, &mut message[27..]);
+    write_header(
+        TAG_STRINGS,
+        strings.len(),
+        s,
+        session,
+        &mut message[0..BLOCK_AT],
+    );
+    mask_strings(s, session, secret, rows, strings, &mut message[BLOCK_AT..]);
 }
 
 // Writes the answer message, where nothing is refused. The rows q stand in the front of a lent workspace.
@@ -64,7 +70,7 @@ fn write_answer(
         session,
         secret,
         taken,
-        &received[27..],
+        &received[BLOCK_AT..],
         &mut work[0..n],
     );
     write_masked(s, session, secret, &work[0..n], strings, message);

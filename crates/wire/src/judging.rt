@@ -4,6 +4,8 @@ ghost use Prim.Native.Nat.{_+_, _*_, _^_, _≤_, _<_};
 ghost use Rattle.basics.specs.Padding.{colBytes};
 ghost use Rattle.wire.specs.Shapes.{mostPlaces, within, verdictOf, blockLength, Width};
 use crate::Shape;
+use crate::fields::CHOICES;
+use crate::fields::TAG_COLUMNS;
 use basics::Verdict;
 use basics::refuse_unless;
 
@@ -13,13 +15,11 @@ const MOST_BYTES: usize = 32;
 
 const MOST_VOLUME: usize = 32768;
 
-const TAG_COLUMNS: u8 = 3;
-
 // k
 pub fn columns_of(mode: u8) -> usize
     ensures { λ r. ⌜ Width mode r ⌝ }
 {
-    if mode == 2 { 256 } else { 128 }
+    if mode == CHOICES { 256 } else { 128 }
 }
 
 // c
@@ -51,7 +51,7 @@ pub fn block_length(tag: u8, s: Shape) -> usize
 fn most_places(mode: u8) -> usize
     ensures { λ r. ⌜ r ≡ mostPlaces mode ⌝ }
 {
-    if mode == 2 { 256 } else { 2 }
+    if mode == CHOICES { 256 } else { 2 }
 }
 
 fn is_within(low: usize, x: usize, high: usize) -> bool

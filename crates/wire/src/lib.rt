@@ -1,8 +1,22 @@
 // Messages of document 01: the shape of a batch, the fields, and what operations ask of a received message.
+mod fields;
 mod judging;
 mod receiving;
 mod writing;
 
+pub use fields::BLOCK_AT;
+pub use fields::BLOCK_HEADER_AT;
+pub use fields::CHOICES;
+pub use fields::SESSION_AT;
+pub use fields::SESSION_BYTES;
+pub use fields::SESSION_VALUE_AT;
+pub use fields::SHAPE_AT;
+pub use fields::SHAPE_BYTES;
+pub use fields::SHAPE_VALUE_AT;
+pub use fields::TAG_COLUMNS;
+pub use fields::TAG_SESSION;
+pub use fields::TAG_SHAPE;
+pub use fields::TAG_STRINGS;
 pub use judging::block_length;
 pub use judging::column_bytes;
 pub use judging::columns_of;

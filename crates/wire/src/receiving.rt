@@ -7,6 +7,17 @@ ghost use Rattle.basics.specs.Verdicts.{atFirst};
 ghost use Rattle.wire.specs.Message.{headerOk, shapeBytes};
 ghost use Rattle.wire.specs.Received.{differs, paddingVerdict, blockVerdict, received};
 use crate::Shape;
+use crate::fields::BLOCK_AT;
+use crate::fields::BLOCK_HEADER_AT;
+use crate::fields::SESSION_AT;
+use crate::fields::SESSION_BYTES;
+use crate::fields::SESSION_VALUE_AT;
+use crate::fields::SHAPE_AT;
+use crate::fields::SHAPE_BYTES;
+use crate::fields::SHAPE_VALUE_AT;
+use crate::fields::TAG_COLUMNS;
+use crate::fields::TAG_SESSION;
+use crate::fields::TAG_SHAPE;
 use crate::judging::block_length;
 use crate::judging::columns_of;
 use basics::Verdict;
@@ -77,18 +88,24 @@ fn compare_shape(s: Shape, message: &[u8]) -> Verdict
         (s.places % 256) as u8,
         s.bytes,
     ];
-    compare(11, message, 3, &value, 6)
+    compare(11, message, SHAPE_VALUE_AT, &value, SHAPE_BYTES)
 }
 
 // Refusal 13, or 0. A message that ends before its block has no padding.
 pub fn check_padding(tag: u8, s: Shape, message: &[u8]) -> Verdict
     ensures { λ r. ⌜ r ≡ paddingVerdict tag (s .mode) (s .rows) (now (message .entry)) ⌝ }
 {
-    if message.len() < 27 {
+    if message.len() < BLOCK_AT {
         return Verdict { code: 0, place: 0 };
     }
-    if tag == 3 {
-        refuse_padded(s.rows, columns_of(s.mode) as u16, &message[27..], 13, 0)
+    if tag == TAG_COLUMNS {
+        refuse_padded(
+            s.rows,
+            columns_of(s.mode) as u16,
+            &message[BLOCK_AT..],
+            13,
+            0,
+        )
     } else {
         Verdict { code: 0, place: 0 }
     }
@@ -99,16 +116,16 @@ fn check_block(tag: u8, len: usize, s: Shape, message: &[u8]) -> Verdict
     requires { ⌜ len < 2 ^ 40 ⌝ }
     ensures { λ r. ⌜ r ≡ blockVerdict tag len (s .mode) (s .rows) (now (message .entry)) ⌝ }
 {
-    if !has_header(message, 24, tag, len) {
+    if !has_header(message, BLOCK_HEADER_AT, tag, len) {
         return Verdict {
             code: 10,
-            place: 24,
+            place: BLOCK_HEADER_AT,
         };
     }
-    if message.len() != 27 + len {
+    if message.len() != BLOCK_AT + len {
         return Verdict {
             code: 10,
-            place: 27 + len,
+            place: BLOCK_AT + len,
         };
     }
     check_padding(tag, s, message)
@@ -118,17 +135,23 @@ fn check_block(tag: u8, len: usize, s: Shape, message: &[u8]) -> Verdict
 pub fn check_received(tag: u8, s: Shape, session: &[u8], message: &[u8]) -> Verdict
     ensures { λ r. ⌜ r ≡ received tag (s .mode) (s .rows) (s .places) (s .bytes) (now (session .entry)) (now (message .entry)) ⌝ }
 {
-    if !has_header(message, 0, 1, 6) {
-        return Verdict { code: 10, place: 0 };
+    if !has_header(message, SHAPE_AT, TAG_SHAPE, SHAPE_BYTES) {
+        return Verdict {
+            code: 10,
+            place: SHAPE_AT,
+        };
     }
     let shape = compare_shape(s, message);
     if shape.code != 0 {
         return shape;
     }
-    if !has_header(message, 9, 2, 12) {
-        return Verdict { code: 10, place: 9 };
+    if !has_header(message, SESSION_AT, TAG_SESSION, SESSION_BYTES) {
+        return Verdict {
+            code: 10,
+            place: SESSION_AT,
+        };
     }
-    let same = compare(12, message, 12, session, 12);
+    let same = compare(12, message, SESSION_VALUE_AT, session, SESSION_BYTES);
     if same.code != 0 {
         return same;
     }

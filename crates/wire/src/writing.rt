@@ -4,11 +4,13 @@ ghost use Prim.Native.Nat.{_+_, _<_};
 ghost use lib.ListN.{length};
 ghost use Rattle.wire.specs.Message.{headerWritten};
 use crate::Shape;
+use crate::fields::BLOCK_AT;
+use crate::fields::BLOCK_HEADER_AT;
+use crate::fields::SESSION_BYTES;
+use crate::fields::SESSION_VALUE_AT;
+use crate::fields::TAG_SESSION;
+use crate::fields::TAG_SHAPE;
 use basics::copy;
-
-const SESSION_BYTES: usize = 12;
-
-const HEADER_BYTES: usize = 27;
 
 const MOST_LENGTH: usize = 65535;
 
@@ -28,14 +30,14 @@ pub fn write_header(tag: u8, len: usize, s: Shape, session: &[u8], out: &mut [u8
     if session.len() != SESSION_BYTES {
         return;
     }
-    if out.len() != HEADER_BYTES {
+    if out.len() != BLOCK_AT {
         return;
     }
     if MOST_LENGTH < len {
         return;
     }
     let shape = [
-        1,
+        TAG_SHAPE,
         0,
         6,
         s.mode,
@@ -44,12 +46,12 @@ pub fn write_header(tag: u8, len: usize, s: Shape, session: &[u8], out: &mut [u8
         (s.places / 256) as u8,
         (s.places % 256) as u8,
         s.bytes,
-        2,
+        TAG_SESSION,
         0,
         12,
     ];
-    put(&shape, &mut out[0..12]);
-    put(session, &mut out[12..24]);
+    put(&shape, &mut out[0..SESSION_VALUE_AT]);
+    put(session, &mut out[SESSION_VALUE_AT..BLOCK_HEADER_AT]);
     let block = [tag, (len / 256) as u8, (len % 256) as u8];
-    put(&block, &mut out[24..27]);
+    put(&block, &mut out[BLOCK_HEADER_AT..BLOCK_AT]);
 }
