@@ -45,7 +45,7 @@ fn low_bits(x: u8, u: usize) -> u8
 }
 
 // The column of a seed, in the front of a workspace: the keystream cut to c bytes, with the padding cleared.
-fn column_of(m: usize, c: usize, session: &[u8], seed: &[u8]) -> [u8; 128]
+fn expand(m: usize, c: usize, session: &[u8], seed: &[u8]) -> [u8; 128]
     requires { ⌜ (0 < m) × (m ≤ 1024) × (c ≡ colBytes m) × (length (now session) ≡ 12) × (length (now seed) ≡ 32) ⌝ }
     ensures { λ r. ⌜ ((p : ℕ) → p < c → getD r p 0 ≡ getD (seedColumn (now (session .entry)) m (now (seed .entry))) p 0) ⌝ }
 {
@@ -61,7 +61,7 @@ fn add_column(m: usize, c: usize, session: &[u8], seed: &[u8], out: &mut [u8])
     requires { ⌜ (0 < m) × (m ≤ 1024) × (c ≡ colBytes m) × (length (now session) ≡ 12) × (length (now seed) ≡ 32) × (length (now out) ≡ c) ⌝ }
     ensures { λ _. ⌜ now (out .exit) ≡ now (out .entry) ⊕ seedColumn (now (session .entry)) m (now (seed .entry)) ⌝ }
 {
-    let work = column_of(m, c, session, seed);
+    let work = expand(m, c, session, seed);
     xor_into(&work, out);
 }
 

@@ -11,7 +11,7 @@ returns : tie.Need-returns
 returns c =
     let s = c .before .before .before .before .before .before .before .before .before in
     c .before .before .xor-into .ensures
-    ∙ xor-agree (s .args .out .now) _ _ (λ p h. c .before .before .before .before .before .column-of .ensures p (omega arith))
+    ∙ xor-agree (s .args .out .now) _ _ (λ p h. c .before .before .before .before .before .expand .ensures p (omega arith))
 
 pub add-column-spec : {M : Type 1} → statement M
 add-column-spec = tie.close (tie.spec (λ c κs. search needs) (λ c. search needs) (λ c κs. search needs) (λ c. search needs) returns)

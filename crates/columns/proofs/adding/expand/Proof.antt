@@ -1,12 +1,12 @@
--- `columns::adding::column_of` meets its contract: the bytes before the last hold rows alone, and the last loses its padding. Assumes nothing.
+-- `columns::adding::expand` meets its contract: the bytes before the last hold rows alone, and the last loses its padding. Assumes nothing.
 use borrow.Author.Needs.{needs}
 use native.Mathlib.Omega.{arith}
 use mathlib.Core.Path.{_≡_, ap, sym, _∙_}
 use Prim.Native.Nat.{ℕ, _-_, _*_, _%_, _^_}
 use lib.ListN.{length, getD, set}
 use Rattle.columns.proofs.Sets.{column-in}
-use Rattle.columns.proofs.adding.column_of.Statement.{statement}
-use Rattle.columns.proofs.adding.column_of.Tie as tie
+use Rattle.columns.proofs.adding.expand.Statement.{statement}
+use Rattle.columns.proofs.adding.expand.Tie as tie
 
 returns : tie.Need-returns
 returns c =
@@ -14,8 +14,8 @@ returns c =
     column-in (s .args .m) (s .args .c) _ (s .args .seed .now) (s .args .session .now) _ (s .pre .0) (s .pre .1) (s .pre .2) (search needs)
     (c .before .before .keystream .ensures) (c .low-bits .ensures)
 
-pub column-of-spec : {M : Type 1} → statement M
-column-of-spec =
+pub expand-spec : {M : Type 1} → statement M
+expand-spec =
     tie.close
     (tie.spec
     (λ c. search needs)
