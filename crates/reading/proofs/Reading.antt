@@ -12,7 +12,7 @@ use borrow.Author.Tests.{eq-eqb, ne-eqb, le-leb}
 use Rattle.basics.specs.declared.Verdict.{Verdict}
 use Rattle.basics.specs.Choice.{pick}
 use Rattle.basics.specs.Verdicts.{pass, unless}
-use Rattle.basics.proofs.Verdicts.{unless-zero}
+use Rattle.basics.proofs.Verdicts.{unless-zero, orElse-ok}
 use Rattle.wire.specs.declared.Shape.{Shape}
 use Rattle.wire.specs.Shapes.{verdictOf, lengthOf}
 use Rattle.wire.specs.Message.{sessionAt, blockHeaderAt, blockAt, header, messageOf, headerOk}
@@ -22,7 +22,7 @@ use Rattle.reading.specs.declared.Cursor.{Cursor}
 use Rattle.reading.specs.declared.Refusal.{Refusal}
 use Rattle.reading.specs.declared.Step as step
 use Rattle.reading.specs.declared.Step.the-variants as case
-use Rattle.reading.specs.Reading.{cursor, start, shapeIn, tagIn, blockOk, stepVerdict, fieldAt, answer, stepOf, numberOf, movedBy, after, Stepped}
+use Rattle.reading.specs.Reading.{cursor, start, shapeIn, tagIn, blockOk, stepVerdict, fieldAt, answer, stepOf, numberOf, movedBy, after, Stepped, lengthIn, stepsVerdict, walkVerdict}
 
 -- ---- answer
 
@@ -113,6 +113,38 @@ again-end message c e = again message c case.End e refl
 pub again-refused : (message : List ℕ) (c : Cursor) (r : Refusal) → stepOf message c ≡ case.Refused r → (k : ℕ) → stepOf message (after k message c) ≡ case.Refused r
 again-refused message c r e = again message c (case.Refused r) e refl
 
+-- ---- where the walk of a message passes, its four steps give shape, session, block and end
+
+pub record Reads (message : List ℕ) (t₁ t₂ t₃ t₄ : step.Step) : Type 0 where
+  pub first : t₁ ≡ case.Shape (shapeIn message) (cursor sessionAt (shapeIn message))
+  pub second : t₂ ≡ case.Session (sessionAt + 3) 12 (cursor blockHeaderAt (shapeIn message))
+  pub third : t₃ ≡ case.Block (tagIn message) blockAt (lengthIn message) (cursor (blockAt + lengthIn message) (shapeIn message))
+  pub last : t₄ ≡ case.End
+
+end-field : (message : List ℕ) (len : ℕ) (s : Shape) → fieldAt message (cursor (blockAt + len) s) ≡ case.End
+unfolding fieldAt
+end-field message len s =
+    rw (
+      ne-eqb (blockAt + len) 0 (λ e. absurd (omega arith)),
+      ne-eqb (blockAt + len) sessionAt (λ e. absurd (omega arith)),
+      ne-eqb (blockAt + len) blockHeaderAt (λ e. absurd (omega arith)),
+    )
+
+pub walk-reads : (message : List ℕ) → walkVerdict message .code ≡ 0
+    → Reads message (stepOf message start) (stepOf message (cursor sessionAt (shapeIn message))) (stepOf message (cursor blockHeaderAt (shapeIn message)))
+    (stepOf message (cursor (blockAt + lengthIn message) (shapeIn message)))
+unfolding stepsVerdict fieldAt
+walk-reads message h =
+    let a = orElse-ok _ _ h in
+    let b = orElse-ok _ _ (a .1) in
+    let c = orElse-ok _ _ (b .1) in
+    record {
+      first = step-field message start (a .0);
+      second = step-field message (cursor sessionAt (shapeIn message)) (b .0);
+      third = step-field message (cursor blockHeaderAt (shapeIn message)) (c .0);
+      last = step-field message (cursor (blockAt + lengthIn message) (shapeIn message)) (c .1) ∙ end-field message (lengthIn message) (shapeIn message);
+    }
+
 -- ---- the writer's message is read back: shape, session, block, end
 
 module _ (tag : ℕ) (s : Shape) (session block : List ℕ) where
@@ -185,12 +217,7 @@ module _ (tag : ℕ) (s : Shape) (session block : List ℕ) (ok : verdictOf s .c
     third = step-field sent (cursor 24 s) verdict-third
         ∙ ap (λ (t : ℕ). case.Block t 27 (lengthOf t s) (cursor (27 + lengthOf t s) s)) tag-there
         ∙ ap (λ (x : ℕ). case.Block tag 27 x (cursor (27 + x) s)) (sym hb);
-    last = step-field sent (cursor (27 + length block) s) verdict-last
-        ∙ rw (
-          ne-eqb (27 + length block) 0 (λ e. absurd (omega arith)),
-          ne-eqb (27 + length block) 9 (λ e. absurd (omega arith)),
-          ne-eqb (27 + length block) 24 (λ e. absurd (omega arith)),
-        );
+    last = step-field sent (cursor (27 + length block) s) verdict-last ∙ end-field sent (length block) s;
     session-there = ap (take 12) (own-session tag (length block) (s .mode) (s .rows) (s .places) (s .bytes) session block sent made hs)
         ∙ take-at session (drop 24 sent) 12 hs;
     block-whole = ap (take (length block)) (own-block tag (length block) (s .mode) (s .rows) (s .places) (s .bytes) session block sent made hs)
