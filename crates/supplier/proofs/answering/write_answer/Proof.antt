@@ -1,4 +1,4 @@
--- `supplier::write_answer` meets its contract: the rows are taken into the front of the workspace, and masking starts from them. Assumes nothing.
+-- `supplier::answering::write_answer` meets its contract: the rows are taken into the front of the workspace, and masking starts from them. Assumes nothing.
 use borrow.Author.Needs.{needs}
 use native.Mathlib.Omega.{arith}
 use native.Mathlib.Nat.{sub-zero, mul-le-mul-left}
@@ -13,8 +13,8 @@ use Rattle.wire.specs.Message.{messageOf}
 use Rattle.supplier.specs.Answer.{takenRows, maskedStrings, answerMessage}
 use Rattle.supplier.proofs.Taken.{front-back, taken-rows}
 use Rattle.supplier.proofs.Ready.{Ready, ready, ready-take, ready-mask}
-use Rattle.supplier.proofs.write_answer.Statement.{statement}
-use Rattle.supplier.proofs.write_answer.Tie as tie
+use Rattle.supplier.proofs.answering.write_answer.Statement.{statement}
+use Rattle.supplier.proofs.answering.write_answer.Tie as tie
 
 -- what the verdict tells, and the bytes of all rows
 module _ (c : tie.After-row-bytes) where

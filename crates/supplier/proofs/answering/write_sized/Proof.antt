@@ -1,9 +1,9 @@
--- `supplier::write_sized` meets its contract: either workspace has room for the rows. Assumes nothing.
+-- `supplier::answering::write_sized` meets its contract: either workspace has room for the rows. Assumes nothing.
 use borrow.Author.Needs.{needs}
 use native.Mathlib.Omega.{arith}
 use Rattle.supplier.proofs.Ready.{ready-shape}
-use Rattle.supplier.proofs.write_sized.Statement.{statement}
-use Rattle.supplier.proofs.write_sized.Tie as tie
+use Rattle.supplier.proofs.answering.write_sized.Statement.{statement}
+use Rattle.supplier.proofs.answering.write_sized.Tie as tie
 
 write-answer-requires : tie.Need-write-answer-requires
 write-answer-requires c κs = (c .before .before .before .before .before .before .before .before .before .before .pre, omega (arith, c .before .before .if1 .taken))

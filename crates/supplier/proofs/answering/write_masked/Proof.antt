@@ -1,4 +1,4 @@
--- `supplier::write_masked` meets its contract: the header over the first 27 bytes, the masked strings over the others. Assumes nothing.
+-- `supplier::answering::write_masked` meets its contract: the header over the first 27 bytes, the masked strings over the others. Assumes nothing.
 use borrow.Author.Needs.{needs}
 use native.Mathlib.Omega.{arith}
 use mathlib.Core.Path.{_≡_, refl, sym, ap, ap₂, _∙_}
@@ -9,8 +9,8 @@ use Rattle.wire.specs.Message.{header, messageOf}
 use Rattle.wire.proofs.Message.{length-header, header-written, two-parts}
 use Rattle.supplier.specs.Answer.{maskedStrings}
 use Rattle.supplier.proofs.Masked.{length-masked}
-use Rattle.supplier.proofs.write_masked.Statement.{statement}
-use Rattle.supplier.proofs.write_masked.Tie as tie
+use Rattle.supplier.proofs.answering.write_masked.Statement.{statement}
+use Rattle.supplier.proofs.answering.write_masked.Tie as tie
 
 returns : tie.Need-returns
 unfolding messageOf

@@ -1,10 +1,10 @@
--- `supplier::answer` meets its contract: a refusal leaves the message, and where nothing is refused it is written. Assumes nothing.
+-- `supplier::answering::answer` meets its contract: a refusal leaves the message, and where nothing is refused it is written. Assumes nothing.
 use borrow.Author.Needs.{needs}
 use mathlib.Core.Path.{_≡_, refl, sym, ap, _∙_}
 use Rattle.basics.specs.declared.Verdict.{Verdict}
 use Rattle.basics.proofs.Verdicts.{gives-old, gives-new}
-use Rattle.supplier.proofs.answer.Statement.{statement}
-use Rattle.supplier.proofs.answer.Tie as tie
+use Rattle.supplier.proofs.answering.answer.Statement.{statement}
+use Rattle.supplier.proofs.answering.answer.Tie as tie
 
 returns : tie.Need-returns
 returns c = gives-old (c .before .before .judge .ensures) (c .if1 .taken) refl
