@@ -18,7 +18,7 @@ returns-2 c =
     let e = q .before .before .before .before in
     let p = e .before .before .before .before .before .before in
     let t = p .before .before .before .before .before in
-    exchanged-answer _ _ _ _ _ _ _ _ _ _ _ _ _ _ _ (p .prepare-from-seeds .ensures) (t .take .ensures) (q .answer-from-seeds .ensures) (c .if2 .taken)
+    exchanged-answer _ _ _ _ _ _ _ _ _ _ _ _ _ _ _ (p .prepare-from-seeds .ensures) (t .take .ensures) (q .answer-from-seeds .ensures) (e .if1 .left) (c .if2 .taken)
 
 same-length-8 : tie.Need-same-length-8
 same-length-8 c =
