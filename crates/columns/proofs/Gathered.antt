@@ -1,8 +1,8 @@
 -- Laws of gathering: the loop that gives each row one byte, and the loop over the bytes of a row. Assumes nothing.
 use mathlib.Core.Path.{_≡_, refl, sym, ap, ap₂, _∙_}
-use mathlib.Core.Bool.{Bool, true, false, _&&_}
+use mathlib.Core.Bool.{Bool, true}
 use mathlib.Core.List.{List}
-use Prim.Native.Nat.{ℕ, zero, suc, _+_, _-_, _*_, _/_, _%_, _≤_, _<_}
+use Prim.Native.Nat.{ℕ, _+_, _-_, _*_, _/_, _%_, _≤_, _<_}
 use native.Mathlib.Nat.{mod-lt, div-add-mod', div-lt-iff-lt-mul, add-mul, mul-assoc, mul-add-mod-self-right, mul-le-mul-right}
 use native.Mathlib.Decide.{ℕ-discrete, decLt}
 use native.Mathlib.Omega.{arith}
@@ -19,8 +19,7 @@ use Rattle.basics.specs.Padding.{colBytes}
 use Rattle.basics.proofs.Choice.{both, picked}
 use Rattle.basics.proofs.Bytes.{length-build, getD-build, build-is, pack-ext, pos-right}
 use Rattle.basics.proofs.Fill.{put-before, put-inside, put-after}
-use Rattle.columns.specs.Gathered.{gathered, gatheredEight, eightFit, rowsFit}
-use Rattle.columns.specs.Turned.{given}
+use Rattle.columns.specs.Gathered.{gathered, gatheredEight, eightFit, rowsFit, given}
 
 -- ---- rows of `width` bytes in which the first j have f at their byte g, and which hold what they held at every other byte
 
@@ -63,7 +62,7 @@ given-end {f} {m} {width} {g} {old} {now} z hg hl =
     at-place p hp (no n) = z .same p n ∙ sym (ap (λ (b : Bool). pick b (f (p / width)) (getD old p 0)) (ne-eqb (p % width) g n))
 
 pub given-eight : (m width g : ℕ) (eight old : List ℕ) → given width g (gathered (colBytes m) eight) old ≡ gatheredEight m width g eight old
-unfolding given gatheredEight
+unfolding gatheredEight
 given-eight m width g eight old = refl
 
 -- k rows from row j on, lent as a part of n bytes from a, each of which took its byte g
@@ -151,7 +150,7 @@ eight-lent c g e j cols part he hj hp =
 
 pub rowed-more : {m width g : ℕ} {cols old now : List ℕ} {next part : List ℕ} → Rowed m width g cols old now → g < width → length old ≡ m * width
     → part ≡ take (8 * colBytes m) (drop (g * (8 * colBytes m)) cols) → next ≡ gatheredEight m width g part now → Rowed m width (g + 1) cols old next
-unfolding gatheredEight
+unfolding gatheredEight given
 rowed-more {m} {width} {g} {cols} {old} {now} {next} {part} z hg hl hp hn = record {
   long = ap length hn ∙ length-build (length now) f ∙ z .long;
   new = λ j b hj hb.

@@ -2,22 +2,25 @@
 use mathlib.Core.Path.{_≡_}
 use mathlib.Core.Bool.{Bool, _&&_}
 use mathlib.Core.List.{List}
-use Prim.Native.Nat.{ℕ, _+_, _*_, _/_, _%_, _≤_}
+use Prim.Native.Nat.{ℕ, _*_, _/_, _%_, _≤_}
 use lib.Dec.{eqb, ltb}
 use lib.ListN.{length, getD}
 use Rattle.basics.specs.Choice.{pick}
 use Rattle.basics.specs.Bytes.{build, pack, bitIn}
 use Rattle.basics.specs.Padding.{colBytes}
-use Rattle.words.specs.Code.{Code, codeOf}
+use Rattle.words.specs.Code.{codeOf}
 
 -- the byte that eight columns of m rows give to row j
 abbrev pub gathered : ℕ → List ℕ → ℕ → ℕ
 gathered c eight j = pack 8 (λ e. bitIn c eight e j)
 
--- rows of `width` bytes after eight columns gave each its byte g; the other bytes stay
+-- rows of `width` bytes after row i took f i for its byte g; the other bytes stay
+unfoldable pub given : ℕ → ℕ → (ℕ → ℕ) → List ℕ → List ℕ
+given width g f old = build (length old) (λ p. pick (eqb (p % width) g) (f (p / width)) (getD old p 0))
+
+-- the same after eight columns gave each row its byte g
 unfoldable pub gatheredEight : ℕ → ℕ → ℕ → List ℕ → List ℕ → List ℕ
-gatheredEight m width g eight old =
-    build (length old) (λ p. pick (eqb (p % width) g) (gathered (colBytes m) eight (p / width)) (getD old p 0))
+gatheredEight m width g eight old = given width g (gathered (colBytes m) eight) old
 
 -- by their lengths: eight columns of m rows, and m rows of more than g bytes
 abbrev pub eightFit : ℕ → ℕ → ℕ → ℕ → ℕ → Bool

@@ -1,9 +1,9 @@
 -- The columns of a set that is lent: handed in as they are, or as seeds. Document 01, section 4: the keystream is ChaCha20.
 use mathlib.Core.Bool.{Bool, _&&_}
 use mathlib.Core.List.{List}
-use Prim.Native.Nat.{ℕ, _+_, _*_, _/_, _%_}
+use Prim.Native.Nat.{ℕ, _*_, _/_, _%_}
 use lib.Dec.{eqb, leb}
-use lib.ListN.{length, getD}
+use lib.ListN.{getD}
 use Rattle.basics.specs.Choice.{pick}
 use Rattle.basics.specs.Bytes.{build, line}
 use Rattle.basics.specs.Padding.{colBytes}

@@ -1,11 +1,9 @@
--- Eight columns turned into rows word by word: eight bytes of columns as one number, its turning, and rows that take its bytes.
+-- Eight columns turned into rows word by word: eight bytes of columns as one number, and its turning.
 use mathlib.Core.List.{List}
 use Prim.Native.Nat.{ℕ, _+_, _*_, _/_, _%_, _^_}
 use lib.Bits.{bitXor, bitAnd}
-use lib.Dec.{eqb}
-use lib.ListN.{length, getD}
-use Rattle.basics.specs.Choice.{pick}
-use Rattle.basics.specs.Bytes.{build, pack, bit}
+use lib.ListN.{getD}
+use Rattle.basics.specs.Bytes.{pack, bit}
 
 -- byte number `byte` of each of eight columns of c bytes, the first column's lowest
 unfoldable pub eightBytes : ℕ → List ℕ → ℕ → ℕ
@@ -25,7 +23,3 @@ turned w = pack 64 (λ n. bit w (n % 8 * 8 + n / 8))
 -- byte i of the number w
 abbrev pub byteOf : ℕ → ℕ → ℕ
 byteOf w i = w / 2 ^ (i * 8) % 256
-
--- rows of `width` bytes after row i took f i for its byte g; the other bytes stay
-unfoldable pub given : ℕ → ℕ → (ℕ → ℕ) → List ℕ → List ℕ
-given width g f old = build (length old) (λ p. pick (eqb (p % width) g) (f (p / width)) (getD old p 0))

@@ -7,8 +7,8 @@ ghost use Rattle.basics.specs.Bytes.{bitIn, lines};
 ghost use Rattle.basics.specs.Padding.{colBytes};
 ghost use Rattle.words.specs.Code.{codeOf};
 ghost use Rattle.construction.specs.Transfer.{rows as rowsOf};
-ghost use Rattle.columns.specs.Turned.{eightBytes, swapped, turned, byteOf, given};
-ghost use Rattle.columns.specs.Gathered.{gatheredEight, eightFit, rowsFit, RowBytes};
+ghost use Rattle.columns.specs.Turned.{eightBytes, swapped, turned, byteOf};
+ghost use Rattle.columns.specs.Gathered.{gatheredEight, eightFit, rowsFit, RowBytes, given};
 use wire::CHOICES;
 
 // Byte number `byte` of each of eight columns of c bytes, as one number, the first column's lowest.
