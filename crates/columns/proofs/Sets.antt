@@ -1,6 +1,6 @@
 -- Laws of lent sets: the keystream in its workspace, and the loop that adds one column after the other. Assumes nothing.
-use mathlib.Core.Path.{_≡_, refl, sym, ap, ap₂, _∙_, subst}
-use mathlib.Core.Bool.{Bool, true, false, _&&_}
+use mathlib.Core.Path.{_≡_, sym, ap, ap₂, _∙_, subst}
+use mathlib.Core.Bool.{Bool, true, false}
 use mathlib.Core.List.{List, _++_}
 use Prim.Native.Nat.{ℕ, _+_, _-_, _*_, _/_, _%_, _^_, _≤_, _<_}
 use native.Mathlib.Decide.{ℕ-discrete}
@@ -13,7 +13,6 @@ use lib.Arith.{digits-lt, digits-div, digits-mod}
 use borrow.Author.Tests.{eq-eqb, le-leb, eqb-true, leb-true}
 use borrow.Rule.Slice.PartMut.{putMid}
 use Rattle.basics.specs.declared.Verdict.{Verdict}
-use Rattle.basics.specs.Choice.{pick}
 use Rattle.basics.specs.Bytes.{build, bit, line, _⊕_, Bytes}
 use Rattle.basics.specs.Padding.{colBytes, padded, Clear}
 use Rattle.basics.specs.Verdicts.{pass, unless, atFirst, Gives}

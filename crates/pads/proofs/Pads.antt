@@ -1,16 +1,14 @@
 -- Laws of pads: their length, and how the hashed bytes are put together. Assumes nothing.
 use mathlib.Core.Path.{_≡_, refl, sym, ap, ap₂, _∙_}
-use mathlib.Core.Bool.{Bool, true, _&&_}
-use mathlib.Core.List.{List, [], _∷_, _++_, append-assoc}
+use mathlib.Core.Bool.{true}
+use mathlib.Core.List.{List, [], _++_, append-assoc}
 use Prim.Native.Nat.{ℕ, _+_, _-_, _≤_}
 use native.Mathlib.Nat.{sub-zero}
 use native.Mathlib.Omega.{arith}
 use lib.ListN.{length, take, drop, length-append}
 use lib.Seq.{take-at, take-all, getD-take}
-use lib.Dec.{eqb, leb}
 use borrow.Author.Tests.{eqb-true, leb-true, eq-eqb, le-leb}
 use borrow.Rule.Slice.PartMut.{putMid}
-use Rattle.basics.specs.Choice.{pick}
 use Rattle.basics.specs.Bytes.{Bytes, be32, over, _⊕_}
 use Rattle.basics.proofs.Choice.{both, picked}
 use Rattle.basics.proofs.Bytes.{over-whole, xor-agree}

@@ -1,7 +1,7 @@
 -- Laws of masking: the row that is hashed, the string of one row and place, and the loops over rows and over places. Assumes nothing.
 use mathlib.Core.Path.{_≡_, refl, sym, ap, ap₂, _∙_}
 use mathlib.Core.List.{List}
-use Prim.Native.Nat.{ℕ, zero, suc, _+_, _-_, _*_, _/_, _%_, _≤_, _<_, min}
+use Prim.Native.Nat.{ℕ, _+_, _-_, _*_, _/_, _%_, _≤_, _<_, min}
 use native.Mathlib.Nat.{mod-lt, div-add-mod', div-lt-iff-lt-mul, add-mul}
 use native.Mathlib.Decide.{ℕ-discrete}
 use native.Mathlib.Omega.{arith}
@@ -10,12 +10,12 @@ use lib.Bits.{bitXor, bitAnd}
 use lib.ListN.{length, getD, take, drop, length-take, length-drop}
 use lib.Seq.{ext-getD, getD-take, getD-drop}
 use borrow.Rule.Slice.PartMut.{putMid, same-len-mid}
-use Rattle.basics.specs.Bytes.{build, line, _⊕_, _⊙_}
+use Rattle.basics.specs.Bytes.{build, line, _⊕_}
 use Rattle.basics.proofs.Bytes.{length-build, getD-build, build-is, build-ext, length-line, getD-and, pos-right, mul-le-both, line-next, line-within}
 use Rattle.basics.proofs.Fill.{put-inside, put-outside}
 use Rattle.words.specs.Code.{Code, codeOf, wordBytes}
 use Rattle.words.proofs.Words.{length-word}
-use Rattle.construction.specs.Transfer.{hashed, masking}
+use Rattle.construction.specs.Transfer.{hashed}
 use Rattle.construction.proofs.Bytewise.{masking-byte, length-masking}
 use Rattle.pads.specs.Pads.{padBytes}
 use Rattle.supplier.specs.Answer.{maskedStrings}

@@ -1,14 +1,13 @@
 -- Laws of taking: the mask that the secret's bit gives, eight columns at a time, and the loop over the bytes of a row. Assumes nothing.
-use mathlib.Core.Path.{_≡_, refl, sym, ap, ap₂, _∙_}
+use mathlib.Core.Path.{_≡_, sym, ap, ap₂, _∙_}
 use mathlib.Core.Bool.{Bool, true, false}
 use mathlib.Core.List.{List}
 use Prim.Native.Nat.{ℕ, zero, suc, _+_, _-_, _*_, _/_, _%_, _≤_, _<_}
-use native.Mathlib.Nat.{sub-zero, mod-eq-of-lt, mod-lt, div-lt-iff-lt-mul, div-add-mod', add-mul, mul-assoc, mul-le-mul-right, suc-mul}
-use native.Mathlib.Decide.{decLt}
+use native.Mathlib.Nat.{sub-zero, mod-eq-of-lt, mod-lt, div-lt-iff-lt-mul, div-add-mod', add-mul, mul-assoc, mul-le-mul-right}
 use native.Mathlib.Omega.{arith}
 use lib.Arith.{digits-lt, digits-div, digits-mod}
 use lib.Bits.{bitXor, bitAnd, and-mask, and-zero-r, xor-zero-r, xor-comm}
-use lib.ListN.{length, getD, take, drop, replicate, length-take, length-drop, length-replicate, getD-replicate, List·getD-eq-default}
+use lib.ListN.{length, getD, take, drop, length-take, length-drop}
 use lib.Seq.{getD-take, getD-drop, ext-getD, take-at, take-all}
 use borrow.Rule.Slice.PartMut.{putMid}
 use Rattle.basics.specs.Choice.{pick, byBit}

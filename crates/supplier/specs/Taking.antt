@@ -4,7 +4,7 @@ use mathlib.Core.Bool.{Bool}
 use mathlib.Core.List.{List}
 use Prim.Native.Nat.{ℕ, _*_, _/_, _≤_}
 use lib.Bits.{bitXor}
-use lib.ListN.{length, getD}
+use lib.ListN.{getD}
 use Rattle.basics.specs.Choice.{byBit}
 use Rattle.basics.specs.Bytes.{build, bit}
 use Rattle.basics.specs.Padding.{colBytes}

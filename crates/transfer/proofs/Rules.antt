@@ -15,7 +15,7 @@ use Rattle.basics.specs.Choice.{pick}
 use Rattle.basics.specs.Bytes.{bitIn, be16At}
 use Rattle.basics.specs.First.{some}
 use Rattle.basics.specs.Padding.{colBytes, padded}
-use Rattle.basics.specs.Verdicts.{at, pass, unless, orElse, atFirst}
+use Rattle.basics.specs.Verdicts.{pass, unless, orElse, atFirst}
 use Rattle.basics.proofs.Choice.{both}
 use Rattle.basics.proofs.First.{some-none}
 use Rattle.symmetric.specs.Calls.{mostInput, hashVerdict, blockVerdict}

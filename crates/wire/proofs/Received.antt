@@ -1,12 +1,12 @@
 -- Laws of a received message: the bytes compared, and what a verdict of 0 says. Assumes nothing.
 use mathlib.Core.Path.{_≡_, refl, sym, ap, ap₂, subst, _∙_}
 use mathlib.Core.Bool.{Bool, true, false, not}
-use mathlib.Core.List.{List, [], _∷_, _++_, append-assoc}
+use mathlib.Core.List.{List, _∷_, _++_, append-assoc}
 use Prim.Native.Nat.{ℕ, suc, _+_, _-_, _*_, _/_, _%_, _^_, _<_, _≤_}
 use native.Mathlib.Nat.{add-zero, zero-div}
 use native.Mathlib.Numerals.{add-one}
 use native.Mathlib.Omega.{arith}
-use lib.Dec.{eqb, leb}
+use lib.Dec.{eqb}
 use lib.ListN.{length, getD, take, drop, length-append, length-drop, drop-of-length-le, take-append-drop, List·getD-append}
 use lib.Seq.{drop-cons, drop-drop, drop-at, getD-take, getD-drop, length-take-le, ext-getD}
 use borrow.Author.Tests.{eq-eqb, ne-eqb, eqb-true, leb-true, le-leb, not-false}
@@ -14,13 +14,13 @@ use Rattle.basics.specs.declared.Verdict.{Verdict}
 use Rattle.basics.specs.Choice.{pick}
 use Rattle.basics.specs.Bytes.{Bytes, bit, be16At}
 use Rattle.basics.specs.Padding.{padded, Clear}
-use Rattle.basics.specs.Verdicts.{pass, unless, orElse, atFirst}
+use Rattle.basics.specs.Verdicts.{pass, atFirst}
 use Rattle.basics.proofs.Padding.{padded-clear, clear-padded}
 use Rattle.basics.proofs.Verdicts.{go, unless-ok, orElse-ok, atFirst-ok, atFirst-none, unless-go, equal-go}
 use Rattle.basics.proofs.Choice.{both}
-use Rattle.wire.specs.Shapes.{kOf, blockLength}
+use Rattle.wire.specs.Shapes.{kOf}
 use Rattle.wire.specs.Message.{blockAt, fieldHeader, shapeBytes, header, messageOf, headerOk}
-use Rattle.wire.specs.Received.{differs, paddingVerdict, blockVerdict, receivedVerdict, received}
+use Rattle.wire.specs.Received.{differs, paddingVerdict, blockVerdict, receivedVerdict}
 use Rattle.wire.proofs.Message.{length-header}
 
 -- ---- differs

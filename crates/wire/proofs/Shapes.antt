@@ -1,10 +1,10 @@
 -- Laws of the shape: bounds of k and of the block's length, and what a shape that passed says. Assumes nothing.
 use mathlib.Core.Path.{_≡_, refl, sym, ap, _∙_}
 use mathlib.Core.Bool.{Bool, true, false}
-use Prim.Native.Nat.{ℕ, _+_, _*_, _/_, _^_, _≤_, _<_}
+use Prim.Native.Nat.{ℕ, _*_, _/_, _^_, _≤_, _<_}
 use native.Mathlib.Omega.{arith}
 use lib.Dec.{eqb, leb}
-use borrow.Author.Tests.{eq-eqb, leb-true}
+use borrow.Author.Tests.{leb-true}
 use Rattle.basics.specs.declared.Verdict.{Verdict}
 use Rattle.basics.specs.Choice.{pick}
 use Rattle.basics.specs.Padding.{colBytes}

@@ -5,7 +5,7 @@ use Prim.Native.Nat.{ℕ}
 use Rattle.basics.specs.declared.Verdict.{Verdict}
 use Rattle.wire.specs.declared.Shape.{Shape}
 use Rattle.wire.specs.Shapes.{verdictOf, lengthOf, Width}
-use Rattle.wire.specs.Message.{headerOk, headerWritten}
+use Rattle.wire.specs.Message.{headerWritten}
 use Rattle.wire.specs.Received.{paddingVerdict, received}
 
 -- a contract that is an equation

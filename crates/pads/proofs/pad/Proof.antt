@@ -1,7 +1,7 @@
 -- `pads::pad` meets its contract: the digest of the hashed bytes. Assumes nothing.
 use borrow.Author.Needs.{needs}
 use native.Mathlib.Omega.{arith}
-use mathlib.Core.Path.{_≡_, refl, sym, ap, _∙_}
+use mathlib.Core.Path.{refl}
 use Prim.Native.Nat.{_+_}
 use lib.ListN.{length, length-take}
 use Rattle.pads.proofs.Pads.{hash-passed, pad-digest}

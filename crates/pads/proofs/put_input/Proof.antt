@@ -1,7 +1,7 @@
 -- `pads::put_input` meets its contract: three copies, one after the other, into parts of 48 bytes. Assumes nothing.
 use borrow.Author.Needs.{needs}
 use native.Mathlib.Omega.{arith}
-use mathlib.Core.Path.{_≡_, refl, sym, ap, _∙_}
+use mathlib.Core.Path.{refl}
 use lib.ListN.{length-take, length-drop}
 use Rattle.pads.proofs.Pads.{three-parts}
 use Rattle.pads.proofs.put_input.Statement.{statement}

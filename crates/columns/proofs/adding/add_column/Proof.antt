@@ -1,8 +1,7 @@
 -- `columns::adding::add_column` meets its contract: the workspace agrees with the column as far as the part reaches. Assumes nothing.
 use borrow.Author.Needs.{needs}
 use native.Mathlib.Omega.{arith}
-use mathlib.Core.Path.{_≡_, _∙_}
-use lib.ListN.{length}
+use mathlib.Core.Path.{_∙_}
 use Rattle.basics.proofs.Bytes.{xor-agree}
 use Rattle.columns.proofs.adding.add_column.Statement.{statement}
 use Rattle.columns.proofs.adding.add_column.Tie as tie

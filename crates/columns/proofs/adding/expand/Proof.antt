@@ -1,9 +1,5 @@
 -- `columns::adding::expand` meets its contract: the bytes before the last hold rows alone, and the last loses its padding. Assumes nothing.
 use borrow.Author.Needs.{needs}
-use native.Mathlib.Omega.{arith}
-use mathlib.Core.Path.{_≡_, ap, sym, _∙_}
-use Prim.Native.Nat.{ℕ, _-_, _*_, _%_, _^_}
-use lib.ListN.{length, getD, set}
 use Rattle.columns.proofs.Sets.{column-in}
 use Rattle.columns.proofs.adding.expand.Statement.{statement}
 use Rattle.columns.proofs.adding.expand.Tie as tie

@@ -1,8 +1,8 @@
 -- `columns::adding::keystream` meets its contract: each block stands whole in its half of the workspace. Assumes nothing.
 use borrow.Author.Needs.{needs}
 use native.Mathlib.Omega.{arith}
-use mathlib.Core.Path.{_≡_, ap, _∙_}
-use lib.ListN.{length, take, drop, length-append, length-take, length-drop}
+use mathlib.Core.Path.{ap, _∙_}
+use lib.ListN.{length, length-append, length-take, length-drop}
 use Rattle.symmetric.proofs.Facts.{length-chacha20}
 use Rattle.columns.proofs.Sets.{block-given, one-block, two-blocks}
 use Rattle.columns.proofs.adding.keystream.Statement.{statement}

@@ -1,8 +1,8 @@
 -- `columns::adding::low_bits` meets its contract: a remainder by a power of 2. Assumes nothing.
 use borrow.Author.Needs.{needs}
 use native.Mathlib.Omega.{arith}
-use mathlib.Core.Path.{_≡_, ap, ap₂, _∙_}
-use Prim.Native.Nat.{ℕ, _%_, _^_, _<_, _≤_}
+use mathlib.Core.Path.{ap₂}
+use Prim.Native.Nat.{ℕ, _%_}
 use native.Mathlib.Nat.{mod-le}
 use lib.Pow.{pow-pos}
 use Rattle.columns.proofs.adding.low_bits.Statement.{statement}

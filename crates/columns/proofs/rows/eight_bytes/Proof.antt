@@ -3,8 +3,7 @@ use mathlib.Core.Path.{_≡_, refl, sym, ap, _∙_}
 use Prim.Native.Nat.{ℕ, _+_, _-_, _*_, _^_, _≤_, _<_}
 use native.Mathlib.Nat.{mul-le-mul-right}
 use native.Mathlib.Omega.{arith}
-use borrow.Author.Needs.{needs}
-use lib.ListN.{length, getD}
+use lib.ListN.{getD}
 use Rattle.columns.proofs.Turned.{bytesFrom, bytesFrom-none, bytesFrom-more, bytesFrom-end, bytesFrom-small}
 use Rattle.columns.proofs.rows.eight_bytes.Statement.{statement}
 use Rattle.columns.proofs.rows.eight_bytes.Tie as tie

@@ -1,7 +1,7 @@
 -- `columns::rows::gather_eight` meets its contract: the guard is the definition's test, and where it holds the lengths fit. Assumes nothing.
 use borrow.Author.Needs.{needs}
 use native.Mathlib.Omega.{arith}
-use mathlib.Core.Path.{_≡_, refl, sym, _∙_}
+use mathlib.Core.Path.{refl, sym, _∙_}
 use Rattle.basics.proofs.Choice.{pick-passed, pick-failed}
 use Rattle.columns.proofs.Gathered.{eight-fit-passed}
 use Rattle.columns.proofs.rows.gather_eight.Statement.{statement}

@@ -1,8 +1,6 @@
 -- `columns::rows::gather_rows` meets its contract: the guard is the definition's test, and where it holds the lengths fit. Assumes nothing.
 use borrow.Author.Needs.{needs}
-use native.Mathlib.Omega.{arith}
 use mathlib.Core.Path.{_≡_, refl, sym, ap, _∙_}
-use mathlib.Core.Bool.{Bool}
 use Prim.Native.Nat.{ℕ}
 use lib.ListN.{length}
 use Rattle.basics.specs.Bytes.{bitIn, lines}

@@ -1,9 +1,8 @@
 -- `columns::rows::give_word` meets its contract. The invariant: the first i rows have their byte g, and no other byte changed. Assumes nothing.
 use mathlib.Core.Path.{_≡_, refl}
-use Prim.Native.Nat.{ℕ, _+_, _-_, _*_, _≤_, _<_}
+use Prim.Native.Nat.{_+_, _-_, _*_, _≤_, _<_}
 use native.Mathlib.Omega.{arith}
 use borrow.Author.Needs.{needs}
-use lib.ListN.{length}
 use Rattle.basics.proofs.Bytes.{mul-le-both, line-next}
 use Rattle.columns.specs.Turned.{byteOf}
 use Rattle.columns.proofs.Gathered.{Given, given-none, given-more, given-end, row-at}

@@ -1,6 +1,6 @@
 -- `outside::taking::entry_of` meets its contract: a number divided by 0 is 0.
 use borrow.Author.Needs.{needs}
-use mathlib.Core.Path.{_≡_, sym, ap, _∙_}
+use mathlib.Core.Path.{sym, ap, _∙_}
 use Prim.Native.Nat.{ℕ, _/_}
 use native.Mathlib.Nat.{div-zero}
 use Rattle.outside.proofs.taking.entry_of.Statement.{statement}

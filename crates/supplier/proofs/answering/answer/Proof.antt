@@ -1,6 +1,6 @@
 -- `supplier::answering::answer` meets its contract: a refusal leaves the message, and where nothing is refused it is written. Assumes nothing.
 use borrow.Author.Needs.{needs}
-use mathlib.Core.Path.{_≡_, refl, sym, ap, _∙_}
+use mathlib.Core.Path.{refl, sym, ap, _∙_}
 use Rattle.basics.specs.declared.Verdict.{Verdict}
 use Rattle.basics.proofs.Verdicts.{gives-old, gives-new}
 use Rattle.supplier.proofs.answering.answer.Statement.{statement}

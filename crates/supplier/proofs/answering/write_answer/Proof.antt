@@ -1,16 +1,16 @@
 -- `supplier::answering::write_answer` meets its contract: the rows are taken into the front of the workspace, and masking starts from them. Assumes nothing.
 use borrow.Author.Needs.{needs}
 use native.Mathlib.Omega.{arith}
-use native.Mathlib.Nat.{sub-zero, mul-le-mul-left}
-use mathlib.Core.Path.{_≡_, refl, sym, ap, ap₂, _∙_}
+use native.Mathlib.Nat.{mul-le-mul-left}
+use mathlib.Core.Path.{_≡_, sym, ap, _∙_}
 use mathlib.Core.List.{List}
-use Prim.Native.Nat.{ℕ, _+_, _-_, _*_, _≤_, _<_}
+use Prim.Native.Nat.{ℕ, _+_, _-_, _*_, _≤_}
 use lib.ListN.{length, take, drop, length-take, length-drop, length-append}
 use borrow.Rule.Slice.PartMut.{putMid}
 use Rattle.words.specs.Code.{codeOf}
 use Rattle.construction.proofs.Bytewise.{length-taking}
 use Rattle.wire.specs.Message.{messageOf}
-use Rattle.supplier.specs.Answer.{takenRows, maskedStrings, answerMessage}
+use Rattle.supplier.specs.Answer.{maskedStrings, answerMessage}
 use Rattle.supplier.proofs.Taken.{front-back, taken-rows}
 use Rattle.supplier.proofs.Ready.{Ready, ready, ready-take, ready-mask}
 use Rattle.supplier.proofs.answering.write_answer.Statement.{statement}

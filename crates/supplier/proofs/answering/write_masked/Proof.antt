@@ -1,9 +1,9 @@
 -- `supplier::answering::write_masked` meets its contract: the header over the first 27 bytes, the masked strings over the others. Assumes nothing.
 use borrow.Author.Needs.{needs}
 use native.Mathlib.Omega.{arith}
-use mathlib.Core.Path.{_≡_, refl, sym, ap, ap₂, _∙_}
+use mathlib.Core.Path.{_≡_, sym, ap, ap₂, _∙_}
 use mathlib.Core.List.{List, _++_}
-use Prim.Native.Nat.{ℕ, _+_, _-_, _≤_}
+use Prim.Native.Nat.{ℕ}
 use lib.ListN.{length, take, drop, length-take, length-drop}
 use Rattle.wire.specs.Message.{header, messageOf}
 use Rattle.wire.proofs.Message.{length-header, header-written, two-parts}

@@ -1,7 +1,6 @@
 -- `supplier::judging::judge_lengths` meets its contract: the tests are the definition's, the last first. Assumes nothing.
 use borrow.Author.Needs.{needs}
 use native.Mathlib.Omega.{arith}
-use mathlib.Core.Path.{_≡_, refl, sym, ap, _∙_}
 use Rattle.basics.proofs.Bytes.{mul-le-both}
 use Rattle.supplier.specs.Answer.{answerLengths}
 use Rattle.supplier.proofs.judging.judge_lengths.Statement.{statement}

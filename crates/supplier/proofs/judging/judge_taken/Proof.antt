@@ -1,7 +1,6 @@
 -- `supplier::judging::judge_taken` meets its contract: each branch is a case of the definition. Assumes nothing.
 use borrow.Author.Needs.{needs}
-use native.Mathlib.Omega.{arith}
-use mathlib.Core.Path.{_≡_, refl, sym, ap, _∙_}
+use mathlib.Core.Path.{refl, ap, _∙_}
 use Prim.Native.Nat.{ℕ}
 use Rattle.basics.specs.Padding.{padded}
 use Rattle.basics.specs.Verdicts.{atFirst}

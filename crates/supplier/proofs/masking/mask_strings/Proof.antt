@@ -1,9 +1,8 @@
 -- `supplier::masking::mask_strings` meets its contract. The invariant: the strings at the places below r are masked in every row, and the others are copies. Assumes nothing.
 use borrow.Author.Needs.{needs}
 use native.Mathlib.Omega.{arith}
-use mathlib.Core.Path.{_≡_, sym, _∙_}
-use Prim.Native.Nat.{ℕ, _-_, _≤_}
-use lib.ListN.{length}
+use mathlib.Core.Path.{sym, _∙_}
+use Prim.Native.Nat.{_-_, _≤_}
 use Rattle.basics.proofs.Bytes.{over-whole}
 use Rattle.supplier.proofs.Masked.{F, Masked, masked-agrees, masked-none, masked-more, masked-end, masked-all}
 use Rattle.supplier.proofs.masking.mask_strings.Statement.{statement}

@@ -1,10 +1,10 @@
 -- `supplier::masking::masked_word` meets its contract. The invariant: the first p bytes of the word AND the secret stand in its place. Assumes nothing.
 use borrow.Author.Needs.{needs}
 use native.Mathlib.Omega.{arith}
-use mathlib.Core.Path.{_≡_, refl, sym, ap, ap₂, _∙_}
-use Prim.Native.Nat.{ℕ, _-_}
+use mathlib.Core.Path.{refl, ap₂}
+use Prim.Native.Nat.{_-_}
 use lib.Bits.{bitAnd}
-use lib.ListN.{length, getD}
+use lib.ListN.{getD}
 use Rattle.words.specs.Code.{codeOf, wordBytes}
 use Rattle.basics.proofs.Fill.{Filled, filled-none, filled-more, filled-end}
 use Rattle.supplier.proofs.masking.masked_word.Statement.{statement}

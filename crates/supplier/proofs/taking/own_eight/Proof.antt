@@ -1,12 +1,10 @@
 -- `supplier::taking::own_eight` meets its contract. The invariant: the first e columns are the supplier's, and a is where the next begins. Assumes nothing.
 use borrow.Author.Needs.{needs}
 use native.Mathlib.Omega.{arith}
-use mathlib.Core.Path.{_≡_, refl, sym, ap, ap₂, _∙_}
-use mathlib.Core.List.{List}
+use mathlib.Core.Path.{_≡_, refl, ap, _∙_}
 use Prim.Native.Nat.{ℕ, _+_, _-_, _*_, _≤_, _<_}
-use lib.ListN.{length, take, drop, length-take, length-drop}
-use Rattle.basics.specs.Bytes.{bit}
-use Rattle.basics.proofs.Bytes.{bit-small, line-next, line-within}
+use lib.ListN.{length-take, length-drop}
+use Rattle.basics.proofs.Bytes.{line-next, line-within}
 use Rattle.basics.proofs.Fill.{Filled, filled-none, filled-part, filled-end}
 use Rattle.supplier.specs.Taking.{ownEight}
 use Rattle.supplier.proofs.Taken.{own, own-part}

@@ -1,17 +1,13 @@
 -- `supplier::taking::take_eight` meets its contract: the eight columns are made in the workspace and gathered. Assumes nothing.
 use borrow.Author.Needs.{needs}
-use native.Mathlib.Omega.{arith}
-use mathlib.Core.Path.{_≡_, refl, sym, ap, ap₂, _∙_}
+use mathlib.Core.Path.{ap, _∙_}
 use mathlib.Core.List.{List}
-use native.Mathlib.Nat.{sub-zero}
-use Prim.Native.Nat.{ℕ, _-_, _*_}
-use lib.ListN.{length, take}
+use Prim.Native.Nat.{ℕ}
+use lib.ListN.{length}
 use Rattle.basics.specs.Padding.{colBytes}
 use Rattle.basics.proofs.Choice.{picked}
-use Rattle.columns.specs.Sets.{columnsOf}
 use Rattle.columns.specs.Gathered.{gatheredEight}
 use Rattle.columns.proofs.Gathered.{eight-fit-holds}
-use Rattle.supplier.specs.Taking.{ownEight}
 use Rattle.supplier.proofs.Taken.{length-own}
 use Rattle.supplier.proofs.taking.take_eight.Statement.{statement}
 use Rattle.supplier.proofs.taking.take_eight.Tie as tie

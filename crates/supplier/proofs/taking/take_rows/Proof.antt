@@ -1,7 +1,7 @@
 -- `supplier::taking::take_rows` meets its contract. The invariant: each row has its bytes below g, a is where the next eight columns begin and b where the next eight entries do; the workspace keeps its length. Assumes nothing.
 use borrow.Author.Needs.{needs}
 use native.Mathlib.Omega.{arith}
-use mathlib.Core.Path.{_≡_, refl, sym, ap, ap₂, _∙_}
+use mathlib.Core.Path.{_≡_, sym, ap, ap₂, _∙_}
 use mathlib.Core.List.{List}
 use Prim.Native.Nat.{ℕ, _+_, _-_, _*_, _≤_, _<_}
 use lib.ListN.{length, getD, take, drop, length-take, length-drop, length-replicate}

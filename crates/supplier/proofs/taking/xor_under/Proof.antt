@@ -1,11 +1,10 @@
 -- `supplier::taking::xor_under` meets its contract. The invariant: the first p bytes of out are xored, and the others are what they were. Assumes nothing.
 use borrow.Author.Needs.{needs}
 use native.Mathlib.Omega.{arith}
-use mathlib.Core.Path.{_≡_, refl, sym, ap, _∙_}
+use mathlib.Core.Path.{refl, ap}
 use Prim.Native.Nat.{ℕ, _-_}
 use lib.Bits.{bitXor, bitAnd}
 use lib.ListN.{length, getD}
-use Rattle.basics.specs.Bytes.{build}
 use Rattle.basics.proofs.Fill.{Filled, filled-none, filled-here, filled-more, filled-end}
 use Rattle.supplier.proofs.taking.xor_under.Statement.{statement}
 use Rattle.supplier.proofs.taking.xor_under.Tie as tie

@@ -1,6 +1,6 @@
 -- `block_length` meets its contract, by whether the tag is that of columns. Assumes nothing.
-use mathlib.Core.Path.{_∙_, ap₂, sym}
-use Prim.Native.Nat.{ℕ, _*_, _≤_}
+use mathlib.Core.Path.{ap₂}
+use Prim.Native.Nat.{ℕ, _*_}
 use native.Mathlib.Omega.{arith}
 use borrow.Author.Tests.{eq-eqb, ne-eqb}
 use Rattle.basics.proofs.Bytes.{mul-le-both}

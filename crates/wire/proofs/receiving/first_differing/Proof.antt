@@ -1,6 +1,5 @@
 -- `first_differing` meets its contract. The invariant: no byte passed differs. Assumes nothing.
 use borrow.Author.Needs.{needs}
-use mathlib.Core.Path.{sym, _∙_}
 use Prim.Native.Nat.{_-_}
 use Rattle.basics.proofs.First.{Passed, passed-none, passed-more, passed-here, passed-end}
 use Rattle.wire.specs.Received.{differs}
