@@ -10,7 +10,7 @@ use native.Mathlib.Omega.{arith}
 use lib.Arith.{digits-div, digits-mod}
 use lib.Bits.{bitXor, bitAnd, differ, and-zero-l, and-zero-r}
 use lib.Dec.{eqb, ltb}
-use lib.ListN.{length, getD, take, drop, set, length-set, take-append-drop, List·getD-append, List·getD-eq-default}
+use lib.ListN.{length, getD, take, drop, set, length-set, take-append-drop, List·getD-eq-default}
 use lib.Pow.{pow-pos, pow-mono}
 use lib.Seq.{getD-set-same, getD-set-other, take-at, getD-take}
 use borrow.Author.Tests.{eq-eqb, ne-eqb, lt-ltb, le-ltb}
@@ -24,6 +24,7 @@ use Rattle.words.specs.Code.{Code, k, pairs, choices, codeOf, parity, parity-di
 use Rattle.words.proofs.Parity.{parity-low, parity-high, parity-small, differ-zero}
 use Rattle.construction.specs.Transfer.{chosen}
 use Rattle.construction.proofs.Bytewise.{chosen-byte}
+use Rattle.columns.proofs.Turned.{differ-small}
 use Rattle.buyer.specs.Chosen.{placeByte, Begins, addedBytes}
 
 -- ---- words
@@ -43,12 +44,6 @@ differ-comm (suc zero) zero hx hy = refl
 differ-comm (suc zero) (suc zero) hx hy = refl
 differ-comm (suc zero) (suc (suc y)) hx hy = absurd (omega arith)
 differ-comm (suc (suc x)) y hx hy = absurd (omega arith)
-
-differ-small : (x y : ℕ) → x < 2 → y < 2 → differ x y < 2
-differ-small zero y hx hy = hy
-differ-small (suc zero) zero hx hy = omega arith
-differ-small (suc zero) (suc y) hx hy = omega arith
-differ-small (suc (suc x)) y hx hy = absurd (omega arith)
 
 pairs-turned : Turned pairs
 pairs-turned r t x h = sym (ap (differ (min r 1)) (differ-self (min r 1) (pair-digit r)) ∙ differ-zero (min r 1))
@@ -109,10 +104,6 @@ filled-front {f} {i} {n} {s} q h e =
 
 pub filled-step : {f : ℕ → ℕ} {i i′ v : ℕ} {old now : List ℕ} → Filled f i old now → i′ ≡ i + 1 → i < length old → v ≡ f i → Filled f i′ old (set now i v)
 filled-step z e h hv = rw e (filled-more z h hv)
-
-pub filled-at : {f : ℕ → ℕ} {i : ℕ} {old now : List ℕ} → Filled f i old now → (p : ℕ) → p < i → getD now p 0 ≡ f p
-filled-at {f} {i} {old} {now} z p h =
-    ap (λ (s : List ℕ). getD s p 0) (z .holds) ∙ List·getD-append (build i f) (drop i old) 0 p (rw length-build h) ∙ getD-build i f p h
 
 pub front-filled : {f : ℕ → ℕ} {i n : ℕ} {old now : List ℕ} → Filled f i old now → i ≡ n → take n now ≡ build n f
 front-filled {f} {i} {n} {old} {now} z e =

@@ -3,22 +3,18 @@ use mathlib.Core.Path.{_≡_, sym, ap, ap₂, _∙_}
 use mathlib.Core.List.{List}
 use Prim.Native.Nat.{ℕ, _+_, _-_, _*_, _/_, _%_, _≤_, _<_}
 use native.Mathlib.Omega.{arith}
-use lib.Arith.{digits-lt, digits-div, digits-mod}
+use lib.Arith.{digits-div, digits-mod}
 use lib.Bits.{bitXor}
 use lib.ListN.{length, getD, take, drop, length-take, length-drop}
 use lib.Seq.{getD-take, getD-drop, take-all}
 use Rattle.basics.specs.Bytes.{build, line, _⊕_}
-use Rattle.basics.proofs.Bytes.{build-ext, line-within}
+use Rattle.basics.proofs.Bytes.{build-ext}
 use Rattle.words.specs.Code.{codeOf}
 use Rattle.construction.specs.Transfer.{opened}
 use Rattle.pads.specs.Pads.{padBytes}
 use Rattle.buyer.specs.Open.{openedRows}
 
 -- ---- where things stand
-
--- the string at row j and place r
-pub string-fits : (m n l j r : ℕ) → j < m → r < n → (j * n + r) * l + l ≤ m * n * l
-string-fits m n l j r hj hr = line-within (m * n) l (j * n + r) (digits-lt hj hr)
 
 -- a part that is lent from a to a + w
 pub part-of : (s : List ℕ) (a w : ℕ) → a + w ≤ length s → length (take (a + w - a) (drop a s)) ≡ w

@@ -3,7 +3,7 @@ use mathlib.Core.Path.{_≡_, refl, sym, ap, ap₂, _∙_}
 use mathlib.Core.Bool.{Bool, true, false, _&&_, not, true≢false}
 use mathlib.Core.List.{List}
 use Prim.Native.Nat.{ℕ, zero, suc, _+_, _-_, _*_, _/_, _%_, _^_, _≤_, _<_, min}
-use native.Mathlib.Nat.{mod-lt, zero-add, min-zero, min-eq-left, lt-of-le-of-lt, lt-of-lt-of-le}
+use native.Mathlib.Nat.{mod-lt, zero-add, min-zero, min-eq-left, lt-of-le-of-lt, lt-of-lt-of-le, le-of-suc-le-suc}
 use native.Mathlib.Omega.{arith}
 use lib.Bits.{bitXor, bitAnd, differ, xor-lt, and-le-l}
 use lib.Dec.{eqb, leb, ltb}
@@ -15,14 +15,11 @@ use Rattle.basics.specs.Bytes.{pack, bit}
 use Rattle.basics.proofs.Choice.{both}
 use Rattle.basics.proofs.Bytes.{bit-small, bit-xor, pack-bit, pack-ext, pack-of, pack-small}
 use Rattle.basics.proofs.Bits.{pack-append, pack-field, bit-and, bit-shr, bit-shl, bit-shl-low, bit-cut, every, every-at}
+use Rattle.words.proofs.Parity.{differ-zero}
 use Rattle.columns.specs.Turned.{eightBytes, swapped, turned, byteOf}
 use Rattle.columns.specs.Gathered.{gathered}
 
 -- ---- digits that differ
-
-differ-zero : (x : ℕ) → differ x 0 ≡ x
-differ-zero zero = refl
-differ-zero (suc x) = refl
 
 differ-undo : (x y : ℕ) → x < 2 → y < 2 → differ x (differ x y) ≡ y
 differ-undo zero y hx hy = refl
@@ -38,11 +35,10 @@ differ-twice (suc zero) (suc zero) hx hy = refl
 differ-twice (suc zero) (suc (suc y)) hx hy = absurd (omega arith)
 differ-twice (suc (suc x)) y hx hy = absurd (omega arith)
 
-differ-small : (x y : ℕ) → x < 2 → y < 2 → differ x y ≤ 1
-differ-small zero y hx hy = omega arith
+pub differ-small : (x y : ℕ) → x < 2 → y < 2 → differ x y < 2
+differ-small zero y hx hy = hy
 differ-small (suc zero) zero hx hy = omega arith
-differ-small (suc zero) (suc zero) hx hy = omega arith
-differ-small (suc zero) (suc (suc y)) hx hy = absurd (omega arith)
+differ-small (suc zero) (suc y) hx hy = omega arith
 differ-small (suc (suc x)) y hx hy = absurd (omega arith)
 
 -- ---- a swap
@@ -77,7 +73,7 @@ module _ (mask by x : ℕ) where
   moved-some : (n : ℕ) → lower mask n ≡ true → bit moved n ≡ differ (bit x n) (bit x (by + n))
   moved-some n e =
       bit-moved n ∙ ap (min (differ (bit x n) (bit x (by + n)))) (eqb-true (bit mask n) 1 e)
-      ∙ min-eq-left (differ-small (bit x n) (bit x (by + n)) (bit-small x n) (bit-small x (by + n)))
+      ∙ min-eq-left (le-of-suc-le-suc (differ-small (bit x n) (bit x (by + n)) (bit-small x n) (bit-small x (by + n))))
 
   -- the same, `by` places higher
   raised-none : (n : ℕ) → n < 64 → upper mask by n ≡ false → bit (moved * 2 ^ by % 2 ^ 64) n ≡ 0

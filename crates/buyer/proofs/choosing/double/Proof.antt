@@ -5,10 +5,10 @@ use native.Mathlib.Omega.{arith}
 use borrow.Author.Needs.{needs}
 use lib.Bits.{bitXor}
 use lib.Pow.{pow-pos}
-use Rattle.basics.proofs.Fill.{Filled}
+use Rattle.basics.proofs.Fill.{Filled, filled-new}
 use Rattle.words.specs.Code.{codeOf}
 use Rattle.buyer.specs.Chosen.{placeByte}
-use Rattle.buyer.proofs.Chosen.{place-turned, filled-front, filled-step, filled-at, front-filled, half-is}
+use Rattle.buyer.proofs.Chosen.{place-turned, filled-front, filled-step, front-filled, half-is}
 use Rattle.buyer.proofs.choosing.double.Statement.{statement}
 use Rattle.buyer.proofs.choosing.double.Tie as tie
 
@@ -40,7 +40,7 @@ loop-holds c =
       omega arith,
       is,
       omega arith,
-      ap₂ bitXor (c .before .places .ensures ∙ ap f is) (filled-at front 0 (pow-pos (a .t))),
+      ap₂ bitXor (c .before .places .ensures ∙ ap f is) (filled-new front 0 (pow-pos (a .t))),
     )
 
 slice-read-table : tie.Need-slice-read-table Inv-loop μ-loop
@@ -65,7 +65,7 @@ loop-again c =
     let a = s .args in
     let f = placeByte (codeOf (a .mode)) (a .selections .now) (a .j) in (
       filled-step (l .loop .inv .0) (omega arith) (omega (arith, s .pre .3 .long))
-          (ap₂ bitXor (filled-at (l .loop .inv .0) (l .loop .x) (omega arith)) (l .loop .inv .4)
+          (ap₂ bitXor (filled-new (l .loop .inv .0) (l .loop .x) (omega arith)) (l .loop .inv .4)
           ∙ sym (ap (λ (h : ℕ). f (h + l .loop .x)) (l .loop .inv .2) ∙ place-turned (a .mode) (a .selections .now) (a .j) (a .t) (l .loop .x) (omega arith))),
       omega arith,
       l .loop .inv .2,

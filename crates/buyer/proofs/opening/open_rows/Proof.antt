@@ -4,11 +4,12 @@ use mathlib.Core.Path.{_≡_, refl, sym, ap, ap₂, _∙_}
 use Prim.Native.Nat.{ℕ, _+_, _-_, _*_, _≤_, _<_}
 use native.Mathlib.Omega.{arith}
 use borrow.Author.Needs.{needs}
+use lib.Arith.{digits-lt}
 use lib.ListN.{length, getD, take, drop}
 use Rattle.basics.specs.Bytes.{build}
 use Rattle.basics.proofs.Bytes.{line-next, line-within}
 use Rattle.basics.proofs.Fill.{Filled, filled-none, filled-part, filled-end}
-use Rattle.buyer.proofs.Opened.{string-fits, part-of, openedAt, row-opened, rows-opened}
+use Rattle.buyer.proofs.Opened.{part-of, openedAt, row-opened, rows-opened}
 use Rattle.buyer.proofs.opening.open_rows.Statement.{statement}
 use Rattle.buyer.proofs.opening.open_rows.Tie as tie
 
@@ -36,7 +37,7 @@ room l h =
     let w = l .before .row-bytes in (
       omega (arith, line-within (a .s .rows) (a .s .bytes) (l .loop .j) h, s .pre .opened-long, l .loop .inv .2),
       omega (arith, line-within (a .s .rows) (w .result) (l .loop .j) h, ap (λ (x : ℕ). a .s .rows * x) (w .ensures .is), s .pre .kept-long, l .loop .inv .3),
-      omega (arith, string-fits (a .s .rows) (a .s .places) (a .s .bytes) (l .loop .j) (getD (a .selections .now) (l .loop .j) 0) h (s .pre .small (l .loop .j) h), s .pre .strings-long),
+      omega (arith, line-within (a .s .rows * a .s .places) (a .s .bytes) (l .loop .j * a .s .places + getD (a .selections .now) (l .loop .j) 0) (digits-lt h (s .pre .small (l .loop .j) h)), s .pre .strings-long),
     )
 
 add-e : tie.Need-add-e Inv-loop μ-loop
