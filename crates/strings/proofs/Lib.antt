@@ -1,0 +1,4 @@
+pub mod Placed
+pub mod Gathered
+pub mod Selected
+pub mod Unique
