@@ -1,10 +1,12 @@
 -- Document 01, section 5, Open: what the call gives back.
 use mathlib.Core.Path.{_≡_}
 use mathlib.Core.List.{List}
-use Prim.Native.Nat.{ℕ, _*_, _/_, _≤_, _<_}
+use Prim.Native.Nat.{ℕ, _*_, _/_, _%_, _≤_, _<_}
 use lib.Dec.{eqb}
+use lib.Bits.{bitXor}
 use lib.ListN.{length, getD, drop}
 use Rattle.basics.specs.declared.Verdict.{Verdict}
+use Rattle.basics.specs.Bytes.{build, line}
 use Rattle.basics.specs.Verdicts.{pass, unless, orElse, Gives}
 use Rattle.words.specs.Code.{codeOf}
 use Rattle.wire.specs.Shapes.{kOf, shapeVerdict}
@@ -39,10 +41,25 @@ openedRows mode m n l session selections kept strings = opened (codeOf mode) (pa
 unfoldable pub openedStrings : ℕ → ℕ → ℕ → ℕ → List ℕ → List ℕ → List ℕ → List ℕ → List ℕ
 openedStrings mode m n l session selections kept message = openedRows mode m n l session selections kept (drop blockAt message)
 
+-- strings that were selected, opened: row j's string xor the pad of (j, kept row j)
+unfoldable pub openedSelected : ℕ → ℕ → ℕ → List ℕ → List ℕ → List ℕ → List ℕ
+openedSelected mode m l session kept strings =
+    build (m * l) (λ p. bitXor (getD strings p 0) (getD (padBytes session l (p / l) (line (codeOf mode .width) kept (p / l))) (p % l) 0))
+
+-- the lengths that it asks for: session, kept rows, strings
+pub record SelectedFits (mode m l session kept strings : ℕ) : Type 0 where
+  pub rows-few : m ≤ 1024
+  pub bytes-few : l ≤ 32
+  pub session-long : session ≡ 12
+  pub kept-long : kept ≡ m * codeOf mode .width
+  pub strings-long : strings ≡ m * l
+
 -- what opening the rows asks, once nothing is refused
 pub record OpenFits (mode m n l : ℕ) (session selections kept strings opened : List ℕ) : Type 0 where
   pub rows-few : m ≤ 1024
+  pub places-some : 1 ≤ n
   pub places-few : n ≤ 256
+  pub bytes-some : 1 ≤ l
   pub bytes-few : l ≤ 32
   pub session-long : length session ≡ 12
   pub selections-long : length selections ≡ m

@@ -40,7 +40,9 @@ open-rows-requires c κs =
     let z = ok x in
     record {
       rows-few = z .shape .rows-few;
+      places-some = omega (arith, z .shape .places-some);
       places-few = z .shape .places-few;
+      bytes-some = z .shape .bytes-some;
       bytes-few = z .shape .bytes-few;
       session-long = z .lengths .session-long;
       selections-long = z .lengths .selections-long;
