@@ -1,6 +1,6 @@
 -- Laws of gathering: the loop that gives each row one byte, and the loop over the bytes of a row. Assumes nothing.
 use mathlib.Core.Path.{_≡_, refl, sym, ap, ap₂, _∙_}
-use mathlib.Core.Bool.{Bool, true}
+use mathlib.Core.Bool.{true}
 use mathlib.Core.List.{List}
 use Prim.Native.Nat.{ℕ, _+_, _-_, _*_, _/_, _%_, _≤_, _<_}
 use native.Mathlib.Nat.{mod-lt, div-add-mod', div-lt-iff-lt-mul, add-mul, mul-assoc, mul-add-mod-self-right, mul-le-mul-right}
@@ -9,6 +9,7 @@ use native.Mathlib.Omega.{arith}
 use lib.ListN.{length, getD, take, drop, set, length-set, length-take, length-drop}
 use lib.Seq.{ext-getD, getD-set-same, getD-set-other, getD-take, getD-drop}
 use lib.Arith.{digits-lt, digits-div, digits-mod}
+use lib.Bits.{bitXor, bitAnd, and-zero-r, xor-zero-r}
 use lib.Dec.{eqb}
 use borrow.Rule.Slice.PartMut.{putMid, same-len-mid}
 use borrow.Author.Count.{below-more}
@@ -16,60 +17,76 @@ use borrow.Author.Tests.{eq-eqb, ne-eqb, eqb-true, lt-ltb, ltb-true}
 use Rattle.basics.specs.Choice.{pick}
 use Rattle.basics.specs.Bytes.{build, pack, bit, bitIn, lines}
 use Rattle.basics.specs.Padding.{colBytes}
-use Rattle.basics.proofs.Choice.{both, picked}
-use Rattle.basics.proofs.Bytes.{length-build, getD-build, build-is, pack-ext, pos-right}
+use Rattle.basics.proofs.Choice.{both, picked, unpicked}
+use Rattle.basics.proofs.Bytes.{length-build, getD-build, pack-ext, pos-right, lines-byte}
 use Rattle.basics.proofs.Fill.{put-before, put-inside, put-after}
-use Rattle.columns.specs.Gathered.{gathered, gatheredEight, eightFit, rowsFit, given}
+use Rattle.columns.specs.Gathered.{gathered, gatheredEight, eightFit, rowsFit, given, withKept}
 
--- ---- rows of `width` bytes in which the first j have f at their byte g, and which hold what they held at every other byte
+-- where nothing is kept, nothing is added
+pub kept-none : (x y keep : ℕ) → keep ≡ 0 → bitXor x (bitAnd y keep) ≡ x
+kept-none x y keep e = ap (λ (z : ℕ). bitXor x (bitAnd y z)) e ∙ ap (bitXor x) (and-zero-r y) ∙ xor-zero-r x
 
-pub record Given (f : ℕ → ℕ) (width g j : ℕ) (old now : List ℕ) : Type 0 where
+-- ---- rows of `width` bytes in which the first j have f, with what was kept, at their byte g, and which hold what they held at every other byte
+
+pub record Given (f : ℕ → ℕ) (width g keep j : ℕ) (old now : List ℕ) : Type 0 where
   pub long : length now ≡ length old
-  pub new : (i : ℕ) → i < j → getD now (i * width + g) 0 ≡ f i
-  pub same : (p : ℕ) → (p % width ≡ g → ⊥) → getD now p 0 ≡ getD old p 0
+  pub new : (i : ℕ) → i < j → getD now (i * width + g) 0 ≡ withKept width g keep f old i
+  pub same : (p : ℕ) → (p % width ≡ g → p / width < j → ⊥) → getD now p 0 ≡ getD old p 0
 
-pub given-none : (f : ℕ → ℕ) (width g : ℕ) (old : List ℕ) → Given f width g 0 old old
-given-none f width g old = record { long = refl; new = λ i h. absurd (omega arith); same = λ p h. refl }
+pub given-none : (f : ℕ → ℕ) (width g keep : ℕ) (old : List ℕ) → Given f width g keep 0 old old
+given-none f width g keep old = record { long = refl; new = λ i h. absurd (omega arith); same = λ p h. refl }
 
-pub given-more : {f : ℕ → ℕ} {width g j at v : ℕ} {old now : List ℕ} → Given f width g j old now → g < width → at ≡ j * width + g → at < length old → v ≡ f j
-    → Given f width g (j + 1) old (set now at v)
-given-more {f} {width} {g} {j} {at} {v} {old} {now} z hg ha hl hv = record {
+-- from row j on byte g is what it was
+given-ahead : {f : ℕ → ℕ} {width g keep j : ℕ} {old now : List ℕ} → Given f width g keep j old now → g < width
+    → (i : ℕ) → j ≤ i → getD now (i * width + g) 0 ≡ getD old (i * width + g) 0
+given-ahead {width = width} {g} z hg i h = z .same (i * width + g) (λ e l. omega (arith, digits-div i hg))
+
+pub given-more : {f : ℕ → ℕ} {width g keep j at v : ℕ} {old now : List ℕ} → Given f width g keep j old now → g < width → at ≡ j * width + g → at < length old
+    → v ≡ bitXor (f j) (bitAnd (getD now at 0) keep) → Given f width g keep (j + 1) old (set now at v)
+given-more {f} {width} {g} {keep} {j} {at} {v} {old} {now} z hg ha hl hv = record {
   long = length-set now at v ∙ z .long;
-  new = below-more (λ (i : ℕ). getD (set now at v) (i * width + g) 0 ≡ f i) j
+  new = below-more (λ (i : ℕ). getD (set now at v) (i * width + g) 0 ≡ withKept width g keep f old i) j
       (λ i h.
       getD-set-other now at (i * width + g) v 0
       (λ e. let same : i ≡ j = sym (digits-div i hg) ∙ ap (λ (p : ℕ). p / width) (e ∙ ha) ∙ digits-div j hg in omega arith)
       ∙ z .new i h)
-      (ap (λ (p : ℕ). getD (set now at v) p 0) (sym ha) ∙ getD-set-same now at v 0 (omega (arith, z .long)) ∙ hv);
-  same = λ p h. getD-set-other now at p v 0 (λ e. h (ap (λ (x : ℕ). x % width) (e ∙ ha) ∙ digits-mod j hg)) ∙ z .same p h;
+      (ap (λ (p : ℕ). getD (set now at v) p 0) (sym ha) ∙ getD-set-same now at v 0 (omega (arith, z .long)) ∙ hv
+      ∙ ap (λ (x : ℕ). bitXor (f j) (bitAnd x keep)) (ap (λ (p : ℕ). getD now p 0) ha ∙ given-ahead z hg j (omega arith)));
+  same = λ p h. getD-set-other now at p v 0
+      (λ e.
+      let row : p / width ≡ j = ap (λ (x : ℕ). x / width) (e ∙ ha) ∙ digits-div j hg in
+      h (ap (λ (x : ℕ). x % width) (e ∙ ha) ∙ digits-mod j hg) (omega arith))
+      ∙ z .same p (λ e l. h e (omega arith));
 }
 
-pub given-end : {f : ℕ → ℕ} {m width g : ℕ} {old now : List ℕ} → Given f width g m old now → g < width → length old ≡ m * width → now ≡ given width g f old
+pub given-end : {f : ℕ → ℕ} {m width g keep : ℕ} {old now : List ℕ} → Given f width g keep m old now → g < width → length old ≡ m * width
+    → now ≡ given width g (withKept width g keep f old) old
 unfolding given
-given-end {f} {m} {width} {g} {old} {now} z hg hl =
+given-end {f} {m} {width} {g} {keep} {old} {now} z hg hl =
     ext-getD 0 now (build (length old) new) (z .long ∙ sym (length-build (length old) new))
     (λ p h. let hp : p < length old = omega (arith, z .long) in at-place p hp (ℕ-discrete (p % width) g) ∙ sym (getD-build (length old) new p hp))
   where
     new : ℕ → ℕ
-    new p = pick (eqb (p % width) g) (f (p / width)) (getD old p 0)
+    new p = pick (eqb (p % width) g) (withKept width g keep f old (p / width)) (getD old p 0)
 
     at-place : (p : ℕ) → p < length old → Dec (p % width ≡ g) → getD now p 0 ≡ new p
     at-place p hp (yes e) =
         let row : p / width < m = div-lt-iff-lt-mul {k = width} (omega arith) .1 (omega arith) in
         let split : p ≡ p / width * width + g = sym (div-add-mod' p width) ∙ ap (λ (x : ℕ). p / width * width + x) e in
-        ap (λ (x : ℕ). getD now x 0) split ∙ z .new (p / width) row
-        ∙ sym (ap (λ (b : Bool). pick b (f (p / width)) (getD old p 0)) (eq-eqb (p % width) g e))
-    at-place p hp (no n) = z .same p n ∙ sym (ap (λ (b : Bool). pick b (f (p / width)) (getD old p 0)) (ne-eqb (p % width) g n))
+        ap (λ (x : ℕ). getD now x 0) split ∙ z .new (p / width) row ∙ sym (picked _ _ (eq-eqb (p % width) g e))
+    at-place p hp (no n) = z .same p (λ e l. n e) ∙ sym (unpicked _ _ (ne-eqb (p % width) g n))
 
-pub given-eight : (m width g : ℕ) (eight old : List ℕ) → given width g (gathered (colBytes m) eight) old ≡ gatheredEight m width g eight old
+pub given-eight : (m width g keep : ℕ) (eight old : List ℕ)
+    → given width g (withKept width g keep (gathered (colBytes m) eight) old) old ≡ gatheredEight m width g keep eight old
 unfolding gatheredEight
-given-eight m width g eight old = refl
+given-eight m width g keep eight old = refl
 
 -- k rows from row j on, lent as a part of n bytes from a, each of which took its byte g
-pub given-part : (k : ℕ) {f u : ℕ → ℕ} {width g j a n : ℕ} {old now ys : List ℕ} → Given f width g j old now → g < width → a ≡ j * width → n ≡ k * width → a + n ≤ length old
-    → ((i : ℕ) → i < k → u i ≡ f (j + i)) → ys ≡ given width g u (take n (drop a now)) → Given f width g (j + k) old (putMid a n now ys)
+pub given-part : (k : ℕ) {f u : ℕ → ℕ} {width g keep j a n : ℕ} {old now ys : List ℕ} → Given f width g keep j old now → g < width → a ≡ j * width → n ≡ k * width
+    → a + n ≤ length old → ((i : ℕ) → i < k → u i ≡ f (j + i)) → ys ≡ given width g (withKept width g keep u (take n (drop a now))) (take n (drop a now))
+    → Given f width g keep (j + k) old (putMid a n now ys)
 unfolding given
-given-part k {f} {u} {width} {g} {j} {a} {n} {old} {now} {ys} z hg ha hn hl hu hy = record {
+given-part k {f} {u} {width} {g} {keep} {j} {a} {n} {old} {now} {ys} z hg ha hn hl hu hy = record {
   long = same-len-mid a n now ys (hylen ∙ sym part) ∙ z .long;
   new = λ i h. row i h (decLt i j);
   same = λ p h. other p h (decLt p a) (decLt p (a + n));
@@ -84,35 +101,44 @@ given-part k {f} {u} {width} {g} {j} {a} {n} {old} {now} {ys} z hg ha hn hl hu h
     fits : a + n ≤ length now
     fits = omega (arith, z .long)
 
+    held : (b : ℕ) → b < n → getD (take n (drop a now)) b 0 ≡ getD now (a + b) 0
+    held b h = getD-take n (drop a now) b 0 h ∙ getD-drop a now b 0
+
     -- byte b of the part
-    here : (b : ℕ) → b < n → getD (putMid a n now ys) (a + b) 0 ≡ pick (eqb (b % width) g) (u (b / width)) (getD now (a + b) 0)
+    here : (b : ℕ) → b < n → getD (putMid a n now ys) (a + b) 0
+        ≡ pick (eqb (b % width) g) (withKept width g keep u (take n (drop a now)) (b / width)) (getD now (a + b) 0)
     here b h =
         put-inside a n now ys fits hylen b h ∙ ap (λ (s : List ℕ). getD s b 0) hy ∙ getD-build (length (take n (drop a now))) _ b (omega (arith, part))
-        ∙ ap (pick (eqb (b % width) g) (u (b / width))) (getD-take n (drop a now) b 0 h ∙ getD-drop a now b 0)
+        ∙ ap (pick (eqb (b % width) g) (withKept width g keep u (take n (drop a now)) (b / width))) (held b h)
 
-    row : (i : ℕ) → i < j + k → Dec (i < j) → getD (putMid a n now ys) (i * width + g) 0 ≡ f i
+    row : (i : ℕ) → i < j + k → Dec (i < j) → getD (putMid a n now ys) (i * width + g) 0 ≡ withKept width g keep f old i
     row i h (yes l) = put-before a n now ys fits hylen (i * width + g) (omega (arith, digits-lt l hg)) ∙ z .new i l
     row i h (no l) =
         let rest : j + (i - j) ≡ i = omega arith in
         let inner : i - j < k = omega arith in
-        let place : i * width + g ≡ a + ((i - j) * width + g) = sym (ap (λ (x : ℕ). x * width + g) rest) ∙ omega (arith, add-mul j (i - j) width) in
-        ap (λ (p : ℕ). getD (putMid a n now ys) p 0) place ∙ here ((i - j) * width + g) (omega (arith, digits-lt inner hg))
-        ∙ ap₂ (λ (x y : ℕ). pick (eqb x g) (u y) (getD now (a + ((i - j) * width + g)) 0)) (digits-mod (i - j) hg) (digits-div (i - j) hg)
-        ∙ picked _ _ (eq-eqb g g refl) ∙ hu (i - j) inner ∙ ap f rest
+        let b : ℕ = (i - j) * width + g in
+        let hb : b < n = omega (arith, digits-lt inner hg) in
+        let place : i * width + g ≡ a + b = sym (ap (λ (x : ℕ). x * width + g) rest) ∙ omega (arith, add-mul j (i - j) width) in
+        ap (λ (p : ℕ). getD (putMid a n now ys) p 0) place ∙ here b hb
+        ∙ ap₂ (λ (x y : ℕ). pick (eqb x g) (withKept width g keep u (take n (drop a now)) y) (getD now (a + b) 0)) (digits-mod (i - j) hg) (digits-div (i - j) hg)
+        ∙ picked _ _ (eq-eqb g g refl)
+        ∙ ap₂ (λ (x y : ℕ). bitXor x (bitAnd y keep)) (hu (i - j) inner ∙ ap f rest)
+        (held b hb ∙ ap (λ (p : ℕ). getD now p 0) (sym place) ∙ given-ahead z hg i (omega arith))
 
-    other : (p : ℕ) → (p % width ≡ g → ⊥) → Dec (p < a) → Dec (p < a + n) → getD (putMid a n now ys) p 0 ≡ getD old p 0
-    other p h (yes l) d = put-before a n now ys fits hylen p l ∙ z .same p h
+    other : (p : ℕ) → (p % width ≡ g → p / width < j + k → ⊥) → Dec (p < a) → Dec (p < a + n) → getD (putMid a n now ys) p 0 ≡ getD old p 0
+    other p h (yes l) d = put-before a n now ys fits hylen p l ∙ z .same p (λ e r. h e (omega arith))
     other p h (no l) (yes r) =
         let split : a + (p - a) ≡ p = omega arith in
         let low : (p - a) % width ≡ p % width
         = sym (mul-add-mod-self-right j width (p - a)) ∙ ap (λ (x : ℕ). (x + (p - a)) % width) (sym ha) ∙ ap (λ (x : ℕ). x % width) split in
+        let within : p / width < j + k = div-lt-iff-lt-mul {k = width} (omega arith) .1 (omega (arith, add-mul j k width)) in
         ap (λ (x : ℕ). getD (putMid a n now ys) x 0) (sym split) ∙ here (p - a) (omega arith)
-        ∙ ap (λ (b : Bool). pick b (u ((p - a) / width)) (getD now (a + (p - a)) 0)) (ne-eqb ((p - a) % width) g (λ e. h (sym low ∙ e)))
-        ∙ ap (λ (x : ℕ). getD now x 0) split ∙ z .same p h
+        ∙ unpicked _ _ (ne-eqb ((p - a) % width) g (λ e. h (sym low ∙ e) within))
+        ∙ ap (λ (x : ℕ). getD now x 0) split ∙ z .same p (λ e s. h e within)
     other p h (no l) (no r) =
         let split : a + (n + (p - (a + n))) ≡ p = omega arith in
         ap (λ (x : ℕ). getD (putMid a n now ys) x 0) (sym split) ∙ put-after a n now ys fits hylen (p - (a + n))
-        ∙ ap (λ (x : ℕ). getD now x 0) split ∙ z .same p h
+        ∙ ap (λ (x : ℕ). getD now x 0) split ∙ z .same p (λ e s. h e (omega arith))
 
 -- row j's byte g lies within m rows
 pub row-at : (m width g j : ℕ) → j < m → g < width → j * width + g < m * width
@@ -125,63 +151,65 @@ rows-within m width j k h = rw (← add-mul) (mul-le-mul-right width h)
 pub rows-rest : (m width j k : ℕ) → j + k ≡ m → m * width - j * width ≡ k * width
 rows-rest m width j k h = omega (arith, add-mul j k width, ap (λ (x : ℕ). x * width) h)
 
--- ---- rows whose bytes below g are gathered from a set of columns
+-- ---- rows that have the bytes of `new` below byte g, and those of `old` from it on
 
--- byte b of row j
-abbrev pub rowByte : ℕ → List ℕ → ℕ → ℕ → ℕ
-rowByte c cols j b = pack 8 (λ e. bitIn c cols (b * 8 + e) j)
-
-pub record Rowed (m width g : ℕ) (cols old now : List ℕ) : Type 0 where
+pub record Rowed (width g : ℕ) (new old now : List ℕ) : Type 0 where
   pub long : length now ≡ length old
-  pub new : (j b : ℕ) → j < m → b < g → getD now (j * width + b) 0 ≡ rowByte (colBytes m) cols j b
+  pub below : (p : ℕ) → p < length old → p % width < g → getD now p 0 ≡ getD new p 0
+  pub rest : (p : ℕ) → p < length old → g ≤ p % width → getD now p 0 ≡ getD old p 0
 
-pub rowed-none : (m width : ℕ) (cols old : List ℕ) → Rowed m width 0 cols old old
-rowed-none m width cols old = record { long = refl; new = λ j b hj h. absurd (omega arith) }
+pub rowed-none : (width : ℕ) (new : List ℕ) {old now : List ℕ} → now ≡ old → Rowed width 0 new old now
+rowed-none width new e = record { long = ap length e; below = λ p l h. absurd (omega arith); rest = λ p l h. ap (λ (s : List ℕ). getD s p 0) e }
+
+pub rowed-more : (m keep : ℕ) (eight : List ℕ) {width g : ℕ} {new old now next : List ℕ} → Rowed width g new old now → g < width → length old ≡ m * width
+    → next ≡ gatheredEight m width g keep eight now
+    → ((j : ℕ) → j < m → withKept width g keep (gathered (colBytes m) eight) old j ≡ getD new (j * width + g) 0) → Rowed width (g + 1) new old next
+unfolding gatheredEight given
+rowed-more m keep eight {width} {g} {new} {old} {now} {next} z hg hl hn hf = record {
+  long = ap length hn ∙ length-build (length now) _ ∙ z .long;
+  below = λ p l h. byte p l ∙ side p l h (ℕ-discrete (p % width) g);
+  rest = λ p l h. byte p l ∙ unpicked _ _ (ne-eqb (p % width) g (λ e. omega arith)) ∙ z .rest p l (omega arith);
+}
+  where
+    f : ℕ → ℕ
+    f = withKept width g keep (gathered (colBytes m) eight) now
+
+    byte : (p : ℕ) → p < length old → getD next p 0 ≡ pick (eqb (p % width) g) (f (p / width)) (getD now p 0)
+    byte p l = ap (λ (s : List ℕ). getD s p 0) hn ∙ getD-build (length now) _ p (omega (arith, z .long))
+
+    side : (p : ℕ) → p < length old → p % width < g + 1 → Dec (p % width ≡ g) → pick (eqb (p % width) g) (f (p / width)) (getD now p 0) ≡ getD new p 0
+    side p l h (yes e) =
+        let row : p / width < m = div-lt-iff-lt-mul {k = width} (omega arith) .1 (omega arith) in
+        let split : p / width * width + g ≡ p = ap (λ (x : ℕ). p / width * width + x) (sym e) ∙ div-add-mod' p width in
+        picked _ _ (eq-eqb (p % width) g e)
+        ∙ ap (λ (x : ℕ). bitXor (gathered (colBytes m) eight (p / width)) (bitAnd x keep))
+        (ap (λ (x : ℕ). getD now x 0) split ∙ z .rest p l (omega arith) ∙ ap (λ (x : ℕ). getD old x 0) (sym split))
+        ∙ hf (p / width) row ∙ ap (λ (x : ℕ). getD new x 0) split
+    side p l h (no n) = unpicked _ _ (ne-eqb (p % width) g n) ∙ z .below p l (omega arith)
+
+pub rowed-end : (m : ℕ) {width g : ℕ} {new old now : List ℕ} → Rowed width g new old now → width ≤ g → length old ≡ m * width → length new ≡ m * width → now ≡ new
+rowed-end m {width} {g} {new} {old} {now} z hg hl hn =
+    ext-getD 0 now new (z .long ∙ hl ∙ sym hn)
+    (λ p h. let l : p < m * width = omega (arith, z .long) in z .below p (omega arith) (omega (arith, mod-lt p (pos-right p m width l))))
 
 -- column e of eight columns that were lent from column g * 8 on
 lent-at : (g c e x : ℕ) → g * (8 * c) + (e * c + x) ≡ (g * 8 + e) * c + x
 lent-at g c e x = let p = add-mul (g * 8) e c in let q = mul-assoc g 8 c in omega arith
 
-eight-lent : (c g e j : ℕ) (cols part : List ℕ) → e < 8 → j / 8 < c → part ≡ take (8 * c) (drop (g * (8 * c)) cols) → bitIn c part e j ≡ bitIn c cols (g * 8 + e) j
-eight-lent c g e j cols part he hj hp =
-    ap (λ (x : ℕ). bit x (j % 8))
-    (ap (λ (s : List ℕ). getD s (e * c + j / 8) 0) hp ∙ getD-take (8 * c) (drop (g * (8 * c)) cols) (e * c + j / 8) 0 (digits-lt he hj)
-    ∙ getD-drop (g * (8 * c)) cols (e * c + j / 8) 0 ∙ ap (λ (p : ℕ). getD cols p 0) (lent-at g c e (j / 8)))
+-- what eight columns give that are those of a set from column g * 8 on
+pub gathered-lent : (c g j : ℕ) (cols eight : List ℕ) → j / 8 < c → ((p : ℕ) → p < 8 * c → getD eight p 0 ≡ getD cols (g * (8 * c) + p) 0)
+    → gathered c eight j ≡ pack 8 (λ e. bitIn c cols (g * 8 + e) j)
+gathered-lent c g j cols eight hj h =
+    pack-ext 8 _ _
+    (λ e he. ap (λ (x : ℕ). bit x (j % 8)) (h (e * c + j / 8) (digits-lt he hj) ∙ ap (λ (p : ℕ). getD cols p 0) (lent-at g c e (j / 8))))
 
-pub rowed-more : {m width g : ℕ} {cols old now : List ℕ} {next part : List ℕ} → Rowed m width g cols old now → g < width → length old ≡ m * width
-    → part ≡ take (8 * colBytes m) (drop (g * (8 * colBytes m)) cols) → next ≡ gatheredEight m width g part now → Rowed m width (g + 1) cols old next
-unfolding gatheredEight given
-rowed-more {m} {width} {g} {cols} {old} {now} {next} {part} z hg hl hp hn = record {
-  long = ap length hn ∙ length-build (length now) f ∙ z .long;
-  new = λ j b hj hb.
-      let small : b < width = omega arith in
-      let inside : j * width + b < length now = omega (arith, z .long, digits-lt hj small) in
-      ap (λ (s : List ℕ). getD s (j * width + b) 0) hn ∙ getD-build (length now) f (j * width + b) inside
-      ∙ ap₂ (λ (x y : ℕ). pick (eqb x g) (gathered (colBytes m) part y) (getD now (j * width + b) 0)) (digits-mod j small) (digits-div j small)
-      ∙ byte j b hj hb (ℕ-discrete b g);
-}
-  where
-    f : ℕ → ℕ
-    f p = pick (eqb (p % width) g) (gathered (colBytes m) part (p / width)) (getD now p 0)
-
-    byte : (j b : ℕ) → j < m → b < g + 1 → Dec (b ≡ g) → pick (eqb b g) (gathered (colBytes m) part j) (getD now (j * width + b) 0) ≡ rowByte (colBytes m) cols j b
-    byte j b hj hb (yes e) =
-        picked _ _ (eq-eqb b g e)
-        ∙ pack-ext 8 _ _ (λ x hx. eight-lent (colBytes m) g x j cols part hx (omega arith) hp ∙ ap (λ (y : ℕ). bitIn (colBytes m) cols (y * 8 + x) j) (sym e))
-    byte j b hj hb (no n) =
-        ap (λ (t : Bool). pick t (gathered (colBytes m) part j) (getD now (j * width + b) 0)) (ne-eqb b g n) ∙ z .new j b hj (omega arith)
-
-pub rowed-end : {m width g : ℕ} {cols old now : List ℕ} → Rowed m width g cols old now → width ≤ g → length old ≡ m * width
-    → now ≡ lines m width (λ j i. bitIn (colBytes m) cols i j)
-unfolding lines
-rowed-end {m} {width} {g} {cols} {old} {now} z hg hl =
-    sym
-    (build-is (m * width) _ now (z .long ∙ hl)
-    (λ p h.
-    let pos : 0 < width = pos-right p m width h in
-    let row : p / width < m = div-lt-iff-lt-mul pos .1 h in
-    let place : p % width < width = mod-lt p pos in
-    sym (ap (λ (x : ℕ). getD now x 0) (sym (div-add-mod' p width)) ∙ z .new (p / width) (p % width) row (omega arith))))
+-- with nothing kept they are the row's byte
+pub gathered-row : (m width g : ℕ) (cols eight old : List ℕ) → g < width → eight ≡ take (8 * colBytes m) (drop (g * (8 * colBytes m)) cols) → (j : ℕ) → j < m
+    → withKept width g 0 (gathered (colBytes m) eight) old j ≡ getD (lines m width (λ j i. bitIn (colBytes m) cols i j)) (j * width + g) 0
+gathered-row m width g cols eight old hg he j hj =
+    kept-none (gathered (colBytes m) eight j) (getD old (j * width + g) 0) 0 refl ∙ gathered-lent (colBytes m) g j cols eight (omega arith)
+    (λ p h. ap (λ (s : List ℕ). getD s p 0) he ∙ getD-take _ (drop (g * (8 * colBytes m)) cols) p 0 h ∙ getD-drop _ cols p 0)
+    ∙ sym (lines-byte m width _ j g hj hg)
 
 -- ---- what the guards say
 
@@ -202,3 +230,6 @@ eight-fit-holds m width g eight old a b h = simp (eq-eqb eight (8 * colBytes m) 
 pub rows-fit-passed : (width m columns old : ℕ) → rowsFit width m columns old ≡ true → (columns ≡ width * (8 * colBytes m)) × (old ≡ m * width)
 rows-fit-passed width m columns old e =
     let (a, b) = both _ _ e in (eqb-true _ _ a ∙ mul-assoc width 8 (colBytes m), eqb-true _ _ b)
+
+pub rows-fit-holds : (width m columns old : ℕ) → columns ≡ width * (8 * colBytes m) → old ≡ m * width → rowsFit width m columns old ≡ true
+rows-fit-holds width m columns old a b = simp (eq-eqb columns (width * 8 * colBytes m) (a ∙ sym (mul-assoc width 8 (colBytes m))), eq-eqb old (m * width) b)

@@ -2,7 +2,8 @@
 use mathlib.Core.Path.{_≡_}
 use mathlib.Core.Bool.{Bool, _&&_}
 use mathlib.Core.List.{List}
-use Prim.Native.Nat.{ℕ, _*_, _/_, _%_, _≤_}
+use Prim.Native.Nat.{ℕ, _+_, _*_, _/_, _%_, _≤_}
+use lib.Bits.{bitXor, bitAnd}
 use lib.Dec.{eqb, ltb}
 use lib.ListN.{length, getD}
 use Rattle.basics.specs.Choice.{pick}
@@ -18,9 +19,13 @@ gathered c eight j = pack 8 (λ e. bitIn c eight e j)
 unfoldable pub given : ℕ → ℕ → (ℕ → ℕ) → List ℕ → List ℕ
 given width g f old = build (length old) (λ p. pick (eqb (p % width) g) (f (p / width)) (getD old p 0))
 
--- the same after eight columns gave each row its byte g
-unfoldable pub gatheredEight : ℕ → ℕ → ℕ → List ℕ → List ℕ → List ℕ
-gatheredEight m width g eight old = given width g (gathered (colBytes m) eight) old
+-- f i xor what `keep` leaves of the byte g that row i has in `old`
+abbrev pub withKept : ℕ → ℕ → ℕ → (ℕ → ℕ) → List ℕ → ℕ → ℕ
+withKept width g keep f old i = bitXor (f i) (bitAnd (getD old (i * width + g) 0) keep)
+
+-- rows after eight columns gave each its byte g, xored with what `keep` leaves of the one that stood there
+unfoldable pub gatheredEight : ℕ → ℕ → ℕ → ℕ → List ℕ → List ℕ → List ℕ
+gatheredEight m width g keep eight old = given width g (withKept width g keep (gathered (colBytes m) eight) old) old
 
 -- by their lengths: eight columns of m rows, and m rows of more than g bytes
 abbrev pub eightFit : ℕ → ℕ → ℕ → ℕ → ℕ → Bool

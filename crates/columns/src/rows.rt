@@ -1,6 +1,6 @@
 // A set of columns turned into rows, eight columns at a time: eight columns give one byte to each row.
 ghost use mathlib.Core.Path.{_≡_};
-ghost use Prim.Native.Nat.{ℕ, _+_, _*_, _<_, _≤_};
+ghost use Prim.Native.Nat.{_+_, _*_, _<_, _≤_};
 ghost use lib.ListN.{length};
 ghost use Rattle.basics.specs.Choice.{pick};
 ghost use Rattle.basics.specs.Bytes.{bitIn, lines};
@@ -8,7 +8,7 @@ ghost use Rattle.basics.specs.Padding.{colBytes};
 ghost use Rattle.words.specs.Code.{codeOf};
 ghost use Rattle.construction.specs.Transfer.{rows as rowsOf};
 ghost use Rattle.columns.specs.Turned.{eightBytes, swapped, turned, byteOf};
-ghost use Rattle.columns.specs.Gathered.{gatheredEight, eightFit, rowsFit, RowBytes, given};
+ghost use Rattle.columns.specs.Gathered.{gatheredEight, eightFit, rowsFit, RowBytes, given, withKept};
 use wire::CHOICES;
 
 // Byte number `byte` of each of eight columns of c bytes, as one number, the first column's lowest.
@@ -44,32 +44,50 @@ fn turn(w: u64) -> u64
     swap(pairs, 0x0000_0000_f0f0_f0f0, 28)
 }
 
-// Gives each of `count` rows, which are no more than eight, its byte g: row i has byte i of w.
-fn give_word(w: u64, count: usize, width: usize, g: usize, out: &mut [u8])
-    requires { ⌜ (count ≤ 8) × (length (now out) ≡ count * width) × (g < width) × (width < 65536) ⌝ }
-    ensures { λ _. ⌜ now (out .exit) ≡ given width g (byteOf w) (now (out .entry)) ⌝ }
+// Gives each of `count` rows, which are no more than eight, its byte g: row i has byte i of w, xor what `keep` leaves of the byte that stood there. Of fresh
+// rows nothing is kept, and so nothing is read, which saves time. `keep` itself may not tell that: it may come of a secret, and then nothing branches on it.
+fn give_word(w: u64, count: usize, width: usize, g: usize, fresh: bool, keep: u8, out: &mut [u8])
+    requires { ⌜ (count ≤ 8) × (length (now out) ≡ count * width) × (g < width) × (width < 65536) × (keep ≡ pick fresh 0 keep) ⌝ }
+    ensures { λ _. ⌜ now (out .exit) ≡ given width g (withKept width g keep (byteOf w) (now (out .entry))) (now (out .entry)) ⌝ }
 {
     let mut i = 0;
     let mut at = g;
     while i < count {
-        out[at] = ((w >> (i * 8)) % 256) as u8;
+        let byte = ((w >> (i * 8)) % 256) as u8;
+        if fresh {
+            out[at] = byte;
+        } else {
+            out[at] = byte ^ (out[at] & keep);
+        }
         at += width;
         i += 1;
     }
 }
 
-// Gives each of m rows its byte g, eight rows at a time, and last the rows that are fewer than eight.
-fn give_bytes(m: usize, c: usize, width: usize, g: usize, eight: &[u8], out: &mut [u8])
-    requires { ⌜ (c ≡ colBytes m) × (m < 65536) × (length (now eight) ≡ 8 * c) × (length (now out) ≡ m * width) × (g < width) × (width < 65536) ⌝ }
-    ensures { λ _. ⌜ now (out .exit) ≡ gatheredEight m width g (now (eight .entry)) (now (out .entry)) ⌝ }
+// Gives each row its byte g, eight rows at a time, and last the rows that are fewer than eight. `rows` and `width` come in their own small types, since the
+// compiler makes a faster loop where it knows how small they are.
+fn give_bytes(rows: u16, width: u8, g: usize, fresh: bool, keep: u8, eight: &[u8], out: &mut [u8])
+    requires { ⌜ (length (now eight) ≡ 8 * colBytes rows) × (length (now out) ≡ rows * width) × (g < width) × (keep ≡ pick fresh 0 keep) ⌝ }
+    ensures { λ _. ⌜ now (out .exit) ≡ gatheredEight rows width g keep (now (eight .entry)) (now (out .entry)) ⌝ }
 {
+    let m = rows as usize;
+    let w = width as usize;
+    let c = (m + 7) / 8;
     let whole = m / 8;
-    let step = 8 * width;
+    let step = 8 * w;
     let mut b = 0;
     let mut a = 0;
     while b < whole {
         let e = a + step;
-        give_word(turn(eight_bytes(c, eight, b)), 8, width, g, &mut out[a..e]);
+        give_word(
+            turn(eight_bytes(c, eight, b)),
+            8,
+            w,
+            g,
+            fresh,
+            keep,
+            &mut out[a..e],
+        );
         a = e;
         b += 1;
     }
@@ -77,8 +95,10 @@ fn give_bytes(m: usize, c: usize, width: usize, g: usize, eight: &[u8], out: &mu
         give_word(
             turn(eight_bytes(c, eight, b)),
             m % 8,
-            width,
+            w,
             g,
+            fresh,
+            keep,
             &mut out[a..],
         );
     }
@@ -98,14 +118,12 @@ fn eight_fit(m: usize, width: usize, g: usize, eight: usize, out: usize) -> bool
     g < width
 }
 
-// Gives each row its byte g from eight columns; nothing where the lengths do not fit.
-pub fn gather_eight(rows: u16, width: u8, g: usize, eight: &[u8], out: &mut [u8])
-    ensures { λ _. ⌜ now (out .exit) ≡ pick (eightFit rows width g (length (now (eight .entry))) (length (now (out .entry)))) (gatheredEight rows width g (now (eight .entry)) (now (out .entry))) (now (out .entry)) ⌝ }
+// Gives each row its byte g from eight columns, xor what `keep` leaves of the byte that stood there; nothing where the lengths do not fit.
+pub fn gather_eight(rows: u16, width: u8, g: usize, keep: u8, eight: &[u8], out: &mut [u8])
+    ensures { λ _. ⌜ now (out .exit) ≡ pick (eightFit rows width g (length (now (eight .entry))) (length (now (out .entry)))) (gatheredEight rows width g keep (now (eight .entry)) (now (out .entry))) (now (out .entry)) ⌝ }
 {
-    let m = rows as usize;
-    let w = width as usize;
-    if eight_fit(m, w, g, eight.len(), out.len()) {
-        give_bytes(m, (m + 7) / 8, w, g, eight, out);
+    if eight_fit(rows as usize, width as usize, g, eight.len(), out.len()) {
+        give_bytes(rows, width, g, false, keep, eight, out);
     }
 }
 
@@ -127,7 +145,7 @@ fn give_rows(rows: u16, width: u8, columns: &[u8], out: &mut [u8])
     let mut a = 0;
     while g < w {
         let e = a + eight;
-        gather_eight(rows, width, g, &columns[a..e], out);
+        give_bytes(rows, width, g, true, 0, &columns[a..e], out);
         a = e;
         g += 1;
     }

@@ -1,9 +1,9 @@
 -- Laws of the definitions of `specs/Transfer.antt`, in its order: lengths, bytes, bits, and that bytes come out. Code is proved by these. Assumes nothing.
 use mathlib.Core.Path.{_≡_, refl, sym, ap, ap₂, _∙_}
 use mathlib.Core.List.{List, _++_}
-use mathlib.Core.Bool.{Bool, false}
+use mathlib.Core.Bool.{Bool, true, false}
 use Prim.Native.Nat.{ℕ, zero, suc, _+_, _-_, _*_, _/_, _%_, _^_, _≤_, _<_, min}
-use native.Mathlib.Nat.{div-add-mod', div-lt-iff-lt-mul}
+use native.Mathlib.Nat.{div-add-mod', div-lt-iff-lt-mul, lt-of-le-of-lt, min-le-left}
 use native.Mathlib.Decide.{decLt}
 use native.Mathlib.Omega.{arith}
 use lib.ListN.{length, getD, length-take}
@@ -20,8 +20,8 @@ use Rattle.construction.specs.Transfer.{Columns, Selections, cleared, co
 use Rattle.basics.proofs.Choice.{picked, unpicked, pick-small, byBit-small}
 use Rattle.basics.proofs.Padding.{padded-clear}
 use Rattle.words.proofs.Words.{length-word, word-byte, word-bytes, word-place}
-use Rattle.basics.proofs.Bytes.{length-build, getD-build, build-ext, build-bytes, bit-small, pack-bit, pack-ext, pack-small, pack-of, xor-pack, bit-xor, length-lines, lines-byte, bitIn-lines, lines-bytes, length-xor, getD-xor, getD-and, xor-bytes, getD-line, length-line, pos-right}
-use Rattle.basics.proofs.Bits.{take-bytes, line-build, pack-low, and-bytes, line-bytes, bitAt-line, bitAt-xor, bitAt-and, bitIn-xor}
+use Rattle.basics.proofs.Bytes.{length-build, getD-build, build-ext, build-bytes, bit-small, pack-bit, pack-ext, pack-small, pack-of, xor-pack, and-pack, length-lines, lines-byte, bitIn-lines, lines-bytes, length-xor, getD-xor, getD-and, xor-bytes, getD-line, length-line, pos-right}
+use Rattle.basics.proofs.Bits.{num, num-of, bit-complement, take-bytes, line-build, pack-low, and-bytes, line-bytes, bitAt-line, bitAt-xor, bitAt-and, bitIn-xor}
 
 -- ---- what the checks of a call tell
 
@@ -113,6 +113,20 @@ module _ (hash : List ℕ → List ℕ) (session : List ℕ) (l j : ℕ) (row : 
   padOf-bytes h = take-bytes l _ h
 
 -- ---- what the supplier takes, and what it hashes
+
+-- a bit that is chosen by x: b, xor a where the complement of x has 1
+under-secret : (x a b : ℕ) → x < 2 → a < 2 → b < 2 → byBit x (differ a b) b ≡ differ b (min a (1 - x))
+under-secret x a b hx ha hb = rw (num-of x hx .1, num-of a ha .1, num-of b hb .1) (tried (num-of x hx .0) (num-of a ha .0) (num-of b hb .0))
+  where
+    tried : (x a b : Bool) → byBit (num x) (differ (num a) (num b)) (num b) ≡ differ (num b) (min (num a) (1 - num x))
+    tried false false false = refl
+    tried false false true = refl
+    tried false true false = refl
+    tried false true true = refl
+    tried true false false = refl
+    tried true false true = refl
+    tried true true false = refl
+    tried true true true = refl
 
 module _ (C : Code) (w : ℕ) (s a b : List ℕ) where
   pub length-select : length (select C w s a b) ≡ k C * w
@@ -327,33 +341,40 @@ module _ (C : Code) (m : ℕ) where
   unfolding taking
   length-taking s w t = length-rows C m _
 
-  -- row j is gathered from the supplier's columns
-  pub taking-byte : (s w t : List ℕ) (j b : ℕ) → j < m → b < C .width
-      → getD (taking C m s w t) (j * C .width + b) 0 ≡ pack 8 (λ e. bitIn (colBytes m) (select C (colBytes m) s (w ⊕ t) t) (b * 8 + e) j)
-  unfolding taking
-  taking-byte s w t j b hj hb = rows-byte C m _ j b hj hb
-
-  -- whose bytes are the message's xor the taken one's where the secret has 0, and the taken one's where it has 1
-  pub taken-byte : (s w t : List ℕ) (p : ℕ) → length w ≡ k C * colBytes m → p < k C * colBytes m
-      → getD (select C (colBytes m) s (w ⊕ t) t) p 0 ≡ byBit (bitAt s (p / colBytes m)) (bitXor (getD w p 0) (getD t p 0)) (getD t p 0)
-  taken-byte s w t p hw h =
-      getD-select C (colBytes m) s (w ⊕ t) t p h
-      ∙ ap (λ (y : ℕ). byBit (bitAt s (p / colBytes m)) y (getD t p 0)) (getD-xor w t p (rw hw h))
+  -- the supplier's column i at row j: the message's bit xor the taken one where the secret has 0, and the taken one where it has 1
+  taken-bit : (s w t : List ℕ) (i j : ℕ) → length w ≡ k C * colBytes m → i < k C → j < m
+      → bitIn (colBytes m) (select C (colBytes m) s (w ⊕ t) t) i j
+      ≡ byBit (bitAt s i) (differ (bitIn (colBytes m) w i j) (bitIn (colBytes m) t i j)) (bitIn (colBytes m) t i j)
+  taken-bit s w t i j hw hi hj =
+      select-bit C (colBytes m) s (w ⊕ t) t i j hi (omega arith)
+      ∙ ap (λ (x : ℕ). byBit (bitAt s i) x (bitIn (colBytes m) t i j)) (bitIn-xor (colBytes m) w t i j (rw hw (digits-lt hi (omega arith))))
 
   pub taking-bit : (s w t : List ℕ) (j i : ℕ) → length w ≡ k C * colBytes m → j < m → i < k C
       → bitIn (C .width) (taking C m s w t) j i
       ≡ byBit (bitAt s i) (differ (bitIn (colBytes m) w i j) (bitIn (colBytes m) t i j)) (bitIn (colBytes m) t i j)
   unfolding taking
-  taking-bit s w t j i hw hj hi =
-      let hb : j / 8 < colBytes m = omega arith in
-      let p : ℕ = i * colBytes m + j / 8 in
-      rows-bit C m (select C (colBytes m) s (w ⊕ t) t) j i hj hi
-      ∙ ap (λ (x : ℕ). bit x (j % 8)) (taken-byte s w t p hw (digits-lt hi hb) ∙ ap (λ (y : ℕ). byBit (bitAt s y) (bitXor (getD w p 0) (getD t p 0)) (getD t p 0)) (digits-div i hb))
-      ∙ inside (bitAt s i) (getD w p 0) (getD t p 0) (j % 8)
+  taking-bit s w t j i hw hj hi = rows-bit C m _ j i hj hi ∙ taken-bit s w t i j hw hi hj
+
+  -- byte b of row j: the taken columns' row xor the message's row AND the complement of the secret
+  pub taking-byte : (s w t : List ℕ) (j b : ℕ) → length w ≡ k C * colBytes m → getD s b 0 < 256 → j < m → b < C .width
+      → getD (taking C m s w t) (j * C .width + b) 0
+      ≡ bitXor (getD (rows C m t) (j * C .width + b) 0) (bitAnd (getD (rows C m w) (j * C .width + b) 0) (255 - getD s b 0))
+  unfolding taking
+  taking-byte s w t j b hw hs hj hb =
+      rows-byte C m _ j b hj hb
+      ∙ pack-ext 8 _ (λ e. differ (theirs t e) (min (theirs w e) (bit (255 - getD s b 0) e)))
+      (λ e he.
+      let hi : b * 8 + e < k C = omega arith in
+      taken-bit s w t (b * 8 + e) j hw hi hj
+      ∙ ap₂ (λ (x y : ℕ). byBit (bit (getD s x 0) y) (differ (theirs w e) (theirs t e)) (theirs t e)) (digits-div b he) (digits-mod b he)
+      ∙ under-secret (bit (getD s b 0) e) (theirs w e) (theirs t e) (bit-small _ e) (bit-small _ (j % 8)) (bit-small _ (j % 8))
+      ∙ ap (λ (x : ℕ). differ (theirs t e) (min (theirs w e) x)) (sym (bit-complement 8 (getD s b 0) e hs he)))
+      ∙ sym (ap₂ bitXor (rows-byte C m t j b hj hb)
+      (ap (λ (x : ℕ). bitAnd x (255 - getD s b 0)) (rows-byte C m w j b hj hb) ∙ and-pack 8 (theirs w) (255 - getD s b 0) (λ e. bit-small _ (j % 8)))
+      ∙ xor-pack 8 (theirs t) _ (λ e. bit-small _ (j % 8)) (λ e. lt-of-le-of-lt (min-le-left (theirs w e) _) (bit-small _ (j % 8))))
     where
-      inside : (x a b e : ℕ) → bit (byBit x (bitXor a b) b) e ≡ byBit x (differ (bit a e) (bit b e)) (bit b e)
-      inside zero a b e = bit-xor a b e
-      inside (suc x) a b e = refl
+      theirs : List ℕ → ℕ → ℕ
+      theirs cols e = bitIn (colBytes m) cols (b * 8 + e) j
 
   pub taking-bytes : (s w t : List ℕ) → Bytes (taking C m s w t)
   unfolding taking

@@ -1,76 +1,39 @@
--- Laws of taking: the mask that the secret's bit gives, eight columns at a time, and the loop over the bytes of a row. Assumes nothing.
+-- Laws of taking: the columns of eight entries of a set, and a byte of each row. Assumes nothing.
 use mathlib.Core.Path.{_≡_, sym, ap, ap₂, _∙_}
 use mathlib.Core.Bool.{Bool, true, false}
 use mathlib.Core.List.{List}
-use Prim.Native.Nat.{ℕ, zero, suc, _+_, _-_, _*_, _/_, _%_, _≤_, _<_}
-use native.Mathlib.Nat.{sub-zero, mod-eq-of-lt, mod-lt, div-lt-iff-lt-mul, div-add-mod', add-mul, mul-assoc, mul-le-mul-right}
+use Prim.Native.Nat.{ℕ, _+_, _-_, _*_, _/_, _%_, _≤_, _<_}
+use native.Mathlib.Nat.{mod-lt, div-lt-iff-lt-mul, div-add-mod', add-mul, mul-assoc, mul-le-mul-right}
 use native.Mathlib.Omega.{arith}
 use lib.Arith.{digits-lt, digits-div, digits-mod}
-use lib.Bits.{bitXor, bitAnd, and-mask, and-zero-r, xor-zero-r, xor-comm}
+use lib.Bits.{bitXor, bitAnd}
 use lib.ListN.{length, getD, take, drop, length-take, length-drop}
-use lib.Seq.{getD-take, getD-drop, ext-getD, take-at, take-all}
-use borrow.Rule.Slice.PartMut.{putMid}
-use Rattle.basics.specs.Choice.{pick, byBit}
-use Rattle.basics.specs.Bytes.{build, bit, bitAt, line, _⊕_, Bytes}
+use lib.Seq.{getD-take, getD-drop, ext-getD, take-all}
+use Rattle.basics.specs.Choice.{pick}
+use Rattle.basics.specs.Bytes.{build, line, _⊕_}
 use Rattle.basics.specs.Padding.{colBytes}
-use Rattle.basics.proofs.Bytes.{length-build, getD-build, build-is, build-ext, bit-small, getD-line, pos-right, zeros-xor, line-within}
+use Rattle.basics.proofs.Bytes.{length-build, getD-build, getD-line, pos-right, zeros-xor}
 use Rattle.basics.proofs.Choice.{picked}
-use Rattle.basics.proofs.Fill.{Filled, filled-rest}
 use Rattle.words.specs.Code.{Code, k, codeOf}
-use Rattle.construction.specs.Transfer.{select, taking}
-use Rattle.construction.proofs.Bytewise.{length-select, taken-byte}
+use Rattle.construction.specs.Transfer.{rows, taking}
+use Rattle.construction.proofs.Bytewise.{rows-byte, taking-byte}
 use Rattle.columns.specs.Sets.{seedColumn, expanded, columnsOf, entryBytes, setFit}
-use Rattle.columns.proofs.Sets.{SetFit, set-fit-holds, length-columnsOf}
+use Rattle.columns.specs.Gathered.{gathered, withKept}
+use Rattle.columns.proofs.Sets.{set-fit-passed, length-columnsOf}
+use Rattle.columns.proofs.Gathered.{gathered-lent}
 use Rattle.columns.proofs.Sizes.{k-of}
-use Rattle.supplier.specs.Taking.{ownEight}
 use Rattle.supplier.specs.Answer.{takenRows}
-
--- ---- the mask: all ones where the bit is 0, and nothing where it is 1
-
-pub under-mask : (b x y : ℕ) → b < 2 → x < 256 → bitXor y (bitAnd x ((1 - b) * 255)) ≡ byBit b (bitXor x y) y
-under-mask zero x y hb hx = ap (bitXor y) (and-mask x 8 ∙ mod-eq-of-lt hx) ∙ xor-comm y x
-under-mask (suc zero) x y hb hx = ap (bitXor y) (and-zero-r x) ∙ xor-zero-r y
-under-mask (suc (suc b)) x y hb hx = absurd (omega arith)
-
--- ---- the loop over eight columns
-
-module _ (c bits : ℕ) (columns old : List ℕ) where
-  -- byte p of the supplier's eight columns
-  abbrev pub own : ℕ → ℕ
-  own p = byBit (bit bits (p / c)) (bitXor (getD columns p 0) (getD old p 0)) (getD old p 0)
-
-  -- the part of column e, lent from byte a of both
-  pub own-part : (e n : ℕ) {a : ℕ} {now : List ℕ} → Filled own a old now → a ≡ e * c → n ≡ c → Bytes columns → a + c ≤ length old
-      → build (length (take n (drop a now))) (λ p. bitXor (getD (take n (drop a now)) p 0) (bitAnd (getD (take n (drop a columns)) p 0) ((1 - bit bits e) * 255)))
-      ≡ build c (λ p. own (a + p))
-  own-part e n {a} {now} z ha hn bytes h =
-      ap (λ (x : ℕ). build x (λ p. bitXor (getD (take n (drop a now)) p 0) (bitAnd (getD (take n (drop a columns)) p 0) ((1 - bit bits e) * 255)))) long
-      ∙ build-ext c _ _
-      (λ p l.
-      let small : p < n = omega arith in
-      ap₂ (λ (y x : ℕ). bitXor y (bitAnd x ((1 - bit bits e) * 255)))
-      (getD-take n (drop a now) p 0 small ∙ getD-drop a now p 0 ∙ filled-rest z p)
-      (getD-take n (drop a columns) p 0 small ∙ getD-drop a columns p 0)
-      ∙ under-mask (bit bits e) (getD columns (a + p) 0) (getD old (a + p) 0) (bit-small bits e) (bytes (a + p))
-      ∙ ap (λ (x : ℕ). byBit (bit bits x) (bitXor (getD columns (a + p) 0) (getD old (a + p) 0)) (getD old (a + p) 0))
-      (sym (ap (λ (x : ℕ). (x + p) / c) ha ∙ digits-div e l)))
-    where
-      long : length (take n (drop a now)) ≡ c
-      long = simp (length-take, length-drop) (omega (arith, z .long))
-
-pub length-own : (c bits : ℕ) (block taken : List ℕ) → length (ownEight c bits block taken) ≡ 8 * c
-unfolding ownEight
-length-own c bits block taken = length-build (8 * c) _
 
 -- ---- eight entries of a set, and the columns they stand for
 
 -- eight entries added to zeros are their columns
 pub zeros-added : (seeded : Bool) (m : ℕ) (session taken zeros old : List ℕ) {now : List ℕ} → zeros ≡ build (length old) (λ p. 0)
     → now ≡ pick (setFit seeded 8 m (length session) (length taken) (length zeros)) (zeros ⊕ columnsOf seeded 8 m session taken) zeros
-    → SetFit seeded 8 m (length session) (length taken) (length old) → now ≡ columnsOf seeded 8 m session taken
-zeros-added seeded m session taken zeros old ez e f =
+    → setFit seeded 8 m (length session) (length taken) (length old) ≡ true → now ≡ columnsOf seeded 8 m session taken
+zeros-added seeded m session taken zeros old ez e fits =
     let long : length zeros ≡ length old = ap length ez ∙ length-build (length old) _ in
-    e ∙ picked _ _ (ap (setFit seeded 8 m (length session) (length taken)) long ∙ set-fit-holds seeded 8 m (length session) (length taken) (length old) f)
+    let f = set-fit-passed seeded 8 m (length session) (length taken) (length old) fits in
+    e ∙ picked _ _ (ap (setFit seeded 8 m (length session) (length taken)) long ∙ fits)
     ∙ ap (λ (z : List ℕ). z ⊕ columnsOf seeded 8 m session taken) ez
     ∙ zeros-xor (length old) (columnsOf seeded 8 m session taken) (length-columnsOf seeded 8 m session taken (f .set-long) ∙ sym (f .block-long))
 
@@ -135,42 +98,27 @@ pub columns-lent : (seeded : Bool) (m g h : ℕ) (session set : List ℕ) → g 
 columns-lent false m g h session set hg hl p hp = getD-take _ (drop (g * (8 * colBytes m)) set) p 0 hp ∙ getD-drop _ set p 0
 columns-lent true m g h session set hg hl p hp = seeds-lent m g h session set hg hl p hp
 
--- ---- eight of the supplier's columns are those that the construction names
+-- ---- a byte of each row
 
 module _ (C : Code) (seeded : Bool) (m : ℕ) (session secret block taken : List ℕ) where
-  abbrev pub supplied : List ℕ
-  supplied = select C (colBytes m) secret (block ⊕ columnsOf seeded (k C) m session taken) (columnsOf seeded (k C) m session taken)
+  -- the columns that were taken, and the rows q
+  abbrev theirs : List ℕ
+  theirs = columnsOf seeded (k C) m session taken
 
-  pub eight-own : (g : ℕ) → g < C .width → length block ≡ C .width * (8 * colBytes m) → length taken ≡ C .width * (8 * entryBytes seeded m)
-      → ownEight (colBytes m) (getD secret g 0) (take (8 * colBytes m) (drop (g * (8 * colBytes m)) block))
-      (columnsOf seeded 8 m session (take (8 * entryBytes seeded m) (drop (g * (8 * entryBytes seeded m)) taken)))
-      ≡ take (8 * colBytes m) (drop (g * (8 * colBytes m)) supplied)
-  unfolding ownEight
-  eight-own g hg hb ht =
-      build-is (8 * colBytes m) _ (take (8 * colBytes m) (drop (g * (8 * colBytes m)) supplied)) long
-      (λ p hp.
-      let place : ℕ = g * (8 * colBytes m) + p in
-      let q = column-place m g p hp in
-      let within : place < k C * colBytes m = place-within m g (C .width) p hg hp in
-      let theirs = columns-lent seeded m g (C .width) session taken hg ht p hp in
-      ap₂ (λ (x y : ℕ). byBit (bit (getD secret g 0) (p / colBytes m)) (bitXor x y) y)
-      (getD-take (8 * colBytes m) (drop (g * (8 * colBytes m)) block) p 0 hp ∙ getD-drop (g * (8 * colBytes m)) block p 0) theirs
-      ∙ ap (λ (x : ℕ). byBit x (bitXor (getD block place 0) (getD (columnsOf seeded (k C) m session taken) place 0)) (getD (columnsOf seeded (k C) m session taken) place 0))
-      (sym (ap (bitAt secret) (q .column) ∙ ap₂ (λ (x y : ℕ). bit (getD secret x 0) y) (digits-div g (q .small)) (digits-mod g (q .small))))
-      ∙ sym (taken-byte C m secret block (columnsOf seeded (k C) m session taken) place (hb ∙ sym (mul-assoc (C .width) 8 (colBytes m))) within)
-      ∙ sym (getD-take (8 * colBytes m) (drop (g * (8 * colBytes m)) supplied) p 0 hp ∙ getD-drop (g * (8 * colBytes m)) supplied p 0))
-    where
-      long : length (take (8 * colBytes m) (drop (g * (8 * colBytes m)) supplied)) ≡ 8 * colBytes m
-      long =
-          let whole = length-select C (colBytes m) secret (block ⊕ columnsOf seeded (k C) m session taken) (columnsOf seeded (k C) m session taken) in
-          let room : g * (8 * colBytes m) + 8 * colBytes m ≤ C .width * (8 * colBytes m) = line-within (C .width) (8 * colBytes m) g hg in
-          simp (length-take, length-drop) (omega (arith, whole, mul-assoc (C .width) 8 (colBytes m)))
+  abbrev pub rowsQ : List ℕ
+  rowsQ = taking C m secret block theirs
+
+  -- byte g of row j, from the eight columns of the entries 8g on
+  pub taken-at : (g : ℕ) (eight : List ℕ) → g < C .width → length block ≡ C .width * (8 * colBytes m) → length taken ≡ C .width * (8 * entryBytes seeded m)
+      → getD secret g 0 < 256 → eight ≡ columnsOf seeded 8 m session (take (8 * entryBytes seeded m) (drop (g * (8 * entryBytes seeded m)) taken)) → (j : ℕ) → j < m
+      → withKept (C .width) g (255 - getD secret g 0) (gathered (colBytes m) eight) (rows C m block) j ≡ getD rowsQ (j * C .width + g) 0
+  taken-at g eight hg hb ht hs he j hj =
+      ap (λ (x : ℕ). bitXor x (bitAnd (getD (rows C m block) (j * C .width + g) 0) (255 - getD secret g 0)))
+      (gathered-lent (colBytes m) g j theirs eight (omega arith) (λ p hp. ap (λ (s : List ℕ). getD s p 0) he ∙ columns-lent seeded m g (C .width) session taken hg ht p hp)
+      ∙ sym (rows-byte C m theirs j g hj hg))
+      ∙ sym (taking-byte C m secret block theirs j g (hb ∙ sym (mul-assoc (C .width) 8 (colBytes m))) hs hj hg)
 
 -- ---- the rows that stand in a workspace
-
--- what was lent from byte 0 on is read again
-pub front-back : (n : ℕ) (work q : List ℕ) → length q ≡ n → take (n - 0) (drop 0 (putMid 0 (n - 0) work q)) ≡ q
-front-back n work q h = take-at q _ (n - 0) (h ∙ sym (sub-zero n))
 
 -- they are taken from the message's block, which is lent from byte 27 on
 pub taken-rows : (seeded : Bool) (mode m : ℕ) (session secret taken received : List ℕ) {q : List ℕ}

@@ -1,6 +1,5 @@
 -- `columns::rows::gather_eight` meets its contract: the guard is the definition's test, and where it holds the lengths fit. Assumes nothing.
 use borrow.Author.Needs.{needs}
-use native.Mathlib.Omega.{arith}
 use mathlib.Core.Path.{refl, sym, _∙_}
 use Rattle.basics.proofs.Choice.{pick-passed, pick-failed}
 use Rattle.columns.proofs.Gathered.{eight-fit-passed}
@@ -10,7 +9,7 @@ use Rattle.columns.proofs.rows.gather_eight.Tie as tie
 give-bytes-requires : tie.Need-give-bytes-requires
 give-bytes-requires c κs =
     let f = eight-fit-passed _ _ _ _ _ (sym (c .before .before .eight-fit .ensures) ∙ c .before .if1 .taken) in
-    (refl, omega arith, f .eight-long, f .rows-long, f .place, omega arith)
+    (f .eight-long, f .rows-long, f .place, refl)
 
 returns : tie.Need-returns
 returns c =
@@ -22,4 +21,4 @@ returns-2 c = pick-failed _ (sym (c .before .eight-fit .ensures) ∙ c .if1 .lef
 
 pub gather-eight-spec : {M : Type 1} → statement M
 gather-eight-spec =
-    tie.close (tie.spec (λ c κs. search needs) (λ c. search needs) give-bytes-requires (λ c. search needs) returns returns-2)
+    tie.close (tie.spec (λ c κs. search needs) give-bytes-requires (λ c. search needs) returns returns-2)

@@ -7,11 +7,12 @@ use mathlib.Core.List.{List}
 use Prim.Native.Nat.{ℕ, _+_, _-_, _*_, _≤_}
 use lib.ListN.{length, take, drop, length-take, length-drop, length-append}
 use borrow.Rule.Slice.PartMut.{putMid}
+use Rattle.basics.proofs.Fill.{front-back}
 use Rattle.words.specs.Code.{codeOf}
 use Rattle.construction.proofs.Bytewise.{length-taking}
 use Rattle.wire.specs.Message.{messageOf}
 use Rattle.supplier.specs.Answer.{maskedStrings, answerMessage}
-use Rattle.supplier.proofs.Taken.{front-back, taken-rows}
+use Rattle.supplier.proofs.Taken.{taken-rows}
 use Rattle.supplier.proofs.Ready.{Ready, ready, ready-take, ready-mask}
 use Rattle.supplier.proofs.answering.write_answer.Statement.{statement}
 use Rattle.supplier.proofs.answering.write_answer.Tie as tie

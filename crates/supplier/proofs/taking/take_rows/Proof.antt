@@ -1,116 +1,135 @@
--- `supplier::taking::take_rows` meets its contract. The invariant: each row has its bytes below g, a is where the next eight columns begin and b where the next eight entries do; the workspace keeps its length. Assumes nothing.
+-- `supplier::taking::take_rows` meets its contract. The invariant: each row has q's bytes below g and the message's from g on, and b is where the next eight
+-- entries begin; the workspace keeps its length. Assumes nothing.
 use borrow.Author.Needs.{needs}
 use native.Mathlib.Omega.{arith}
 use mathlib.Core.Path.{_≡_, sym, ap, ap₂, _∙_}
 use mathlib.Core.List.{List}
 use Prim.Native.Nat.{ℕ, _+_, _-_, _*_, _≤_, _<_}
 use lib.ListN.{length, getD, take, drop, length-take, length-drop, length-replicate}
-use borrow.Rule.Slice.PartMut.{same-len-mid}
+use borrow.Rule.Slice.PartMut.{putMid, same-len-mid}
+use Rattle.basics.specs.Choice.{pick}
 use Rattle.basics.specs.Padding.{colBytes}
+use Rattle.basics.proofs.Bytes.{mul-le-both, line-next, line-within}
+use Rattle.basics.proofs.Choice.{picked}
+use Rattle.basics.proofs.Fill.{front-back}
 use Rattle.words.specs.Code.{codeOf}
 use Rattle.words.proofs.Words.{codeOf-width}
-use Rattle.basics.specs.Bytes.{bitIn, lines}
-use Rattle.basics.proofs.Bytes.{mul-le-both, line-next, line-within}
-use Rattle.construction.specs.Transfer.{rows as rowsOf, taking}
+use Rattle.construction.specs.Transfer.{rows as rowsOf}
+use Rattle.construction.proofs.Bytewise.{length-rows, length-taking}
+use Rattle.columns.specs.Gathered.{gatheredEight, eightFit}
 use Rattle.columns.specs.Sets.{columnsOf, entryBytes}
-use Rattle.supplier.specs.Taking.{ownEight}
-use Rattle.columns.proofs.Gathered.{Rowed, rowed-none, rowed-more, rowed-end}
-use Rattle.supplier.proofs.Taken.{supplied, eight-own}
+use Rattle.columns.proofs.Gathered.{Rowed, rowed-none, rowed-more, rowed-end, eight-fit-holds, rows-fit-holds}
+use Rattle.columns.proofs.Sets.{set-fit-holds, length-columnsOf}
+use Rattle.supplier.proofs.Taken.{rowsQ, taken-at}
 use Rattle.supplier.proofs.taking.take_rows.Statement.{statement}
 use Rattle.supplier.proofs.taking.take_rows.Tie as tie
 
 abbrev Inv-loop : tie.InvT-loop
-Inv-loop seeded mode rows session secret taken block q₀ width columns entries work₀ g₀ a₀ b₀ q work g a b = (Rowed rows width g (supplied (codeOf mode) seeded rows session secret block taken) q₀ q) × (g ≤ width) × (a ≡ g * (8 * colBytes rows)) × (b ≡ g * (8 * entryBytes seeded rows)) × (length work ≡ 1024)
+Inv-loop seeded mode rows session secret taken block q₀ width columns entries work₀ g₀ b₀ q work g b =
+    (Rowed (codeOf mode .width) g (rowsQ (codeOf mode) seeded rows session secret block taken) (rowsOf (codeOf mode) rows block) q)
+    × (g ≤ width) × (b ≡ g * (8 * entryBytes seeded rows)) × (length work ≡ 1024)
 
 abbrev μ-loop : tie.MeasureT-loop
-μ-loop seeded mode rows session secret taken block q₀ width columns entries work₀ g₀ a₀ b₀ q work g a b = width - g
+μ-loop seeded mode rows session secret taken block q₀ width columns entries work₀ g₀ b₀ q work g b = width - g
 
 module _ (l : tie.At-loop Inv-loop μ-loop) where
   abbrev start : tie.Start Inv-loop μ-loop
-  start = l .before .before .before .before .before .before .before .before .before
-
-  abbrev c : ℕ
-  c = colBytes (start .args .rows)
+  start = l .before .before .before .before .before .before .before .before .before .before .before .before .before
 
   abbrev entry : ℕ
   entry = entryBytes (start .args .seeded) (start .args .rows)
 
-  abbrev wide : ℕ
-  wide = l .before .before .before .row-bytes .result
-
-  width : wide ≡ codeOf (start .args .mode) .width
+  width : l .before .before .before .row-bytes .result ≡ codeOf (start .args .mode) .width
   width = l .before .before .before .row-bytes .ensures .is
 
-  column-is : l .before .before .column-bytes .result ≡ c
+  column-is : l .before .before .column-bytes .result ≡ colBytes (start .args .rows)
   column-is = l .before .before .column-bytes .ensures
 
   entry-is : l .before .entry-bytes .result ≡ entry
   entry-is = l .before .entry-bytes .ensures .0
 
-  -- the next eight columns and the next eight entries stand in theirs
-  columns-inside : l .loop .g < wide → l .loop .a + 8 * c ≤ length (start .args .block .now)
-  columns-inside h =
-      omega (arith, line-within wide (8 * c) (l .loop .g) h, l .loop .inv .2, start .pre .block-long ∙ ap (λ (x : ℕ). x * (8 * c)) (sym width))
+  rows-long : length (rowsOf (codeOf (start .args .mode)) (start .args .rows) (start .args .block .now)) ≡ start .args .rows * codeOf (start .args .mode) .width
+  rows-long = length-rows (codeOf (start .args .mode)) (start .args .rows) (start .args .block .now)
 
-  entries-inside : l .loop .g < wide → l .loop .b + 8 * entry ≤ length (start .args .taken .now)
-  entries-inside h =
-      omega (arith, line-within wide (8 * entry) (l .loop .g) h, l .loop .inv .3, start .pre .taken-long ∙ ap (λ (x : ℕ). x * (8 * entry)) (sym width))
-
-  columns-few : length (start .args .block .now) ≤ 32768
-  columns-few = rw (start .pre .block-long) (mul-le-both _ (8 * c) 32 1024 (codeOf-width (start .args .mode)) (omega (arith, start .pre .few)))
+  -- the next eight entries stand in the set
+  entries-inside : l .loop .g < l .before .before .before .row-bytes .result → l .loop .b + 8 * entry ≤ length (start .args .taken .now)
+  entries-inside h = omega (arith, line-within (codeOf (start .args .mode) .width) (8 * entry) (l .loop .g) (rw width at h), l .loop .inv .2, start .pre .taken-long)
 
   entries-few : length (start .args .taken .now) ≤ 2097152
   entries-few =
       rw (start .pre .taken-long) (mul-le-both _ (8 * entry) 32 65536 (codeOf-width (start .args .mode)) (omega (arith, l .before .entry-bytes .ensures .1, entry-is)))
 
-take-eight-requires : tie.Need-take-eight-requires Inv-loop μ-loop
-take-eight-requires c κs =
-    let t = c .before .before .before .before .before in
+-- the eight columns that were made, and that they are read again from the workspace
+module _ (t : tie.After-taken-columns Inv-loop μ-loop) where
+  abbrev loop : tie.At-loop Inv-loop μ-loop
+  loop = t .before .before .before .before
+
+  abbrev size : ℕ
+  size = 8 * loop .before .before .column-bytes .result
+
+  abbrev eight : List ℕ
+  eight = t .taken-columns .last .1 .1 .1 .1 .0
+
+  made : let a = start loop .args in
+      eight ≡ columnsOf (a .seeded) 8 (a .rows) (a .session .now) (take (8 * entry loop) (drop (loop .loop .g * (8 * entry loop)) (a .taken .now)))
+  made = let a = start loop .args in
+      let entries : loop .loop .b + 8 * loop .before .entry-bytes .result - loop .loop .b ≡ 8 * entry loop = omega (arith, entry-is loop) in
+      t .taken-columns .ensures
+      ∙ ap₂ (λ (x y : ℕ). columnsOf (a .seeded) 8 (a .rows) (a .session .now) (take x (drop y (a .taken .now)))) entries (loop .loop .inv .2)
+
+  eight-long : length eight ≡ size
+  eight-long = let a = start loop .args in
+      ap length made
+      ∙ length-columnsOf (a .seeded) 8 (a .rows) (a .session .now) _ (simp (length-take, length-drop) (omega (arith, entries-inside loop (t .before .before .before .loop-test .taken), loop .loop .inv .2)))
+      ∙ ap (λ (x : ℕ). 8 * x) (sym (column-is loop))
+
+  again : take (size - 0) (drop 0 (putMid 0 (size - 0) (loop .loop .work) eight)) ≡ eight
+  again = front-back size (loop .loop .work) eight eight-long
+
+  work-long : length (putMid 0 (size - 0) (loop .loop .work) eight) ≡ 1024
+  work-long = same-len-mid 0 (size - 0) (loop .loop .work) eight (eight-long ∙ simp (length-take, length-drop) (omega (arith, column-is loop, start loop .pre .few, loop .loop .inv .3))) ∙ loop .loop .inv .3
+
+taken-columns-requires : tie.Need-taken-columns-requires Inv-loop μ-loop
+taken-columns-requires c κs =
+    let t = c .before .before in
     let l = t .before in
     let s = start l in
-    let h = t .loop-test .taken in (
-      record {
-        some = s .pre .some;
-        few = s .pre .few;
-        session-long = s .pre .session-long;
-        taken-long = simp (length-take, length-drop) (omega (arith, entries-inside l h, entry-is l));
-        block-long = simp (length-take, length-drop) (omega (arith, columns-inside l h, column-is l));
-        eight-long = simp (length-take, length-drop) (omega (arith, column-is l, s .pre .few, l .loop .inv .4));
-      },
-      h,
-      l .loop .inv .0 .long ∙ s .pre .rows-long ∙ ap (λ (x : ℕ). s .args .rows * x) (sym (width l)),
-    )
+    set-fit-holds (s .args .seeded) 8 (s .args .rows) _ _ _
+    (record {
+      some = s .pre .some;
+      few = s .pre .few;
+      session-long = s .pre .session-long;
+      set-long = simp (length-take, length-drop) (omega (arith, entries-inside l (t .loop-test .taken), entry-is l));
+      block-long = simp (length-take, length-drop) (omega (arith, column-is l, s .pre .few, l .loop .inv .3));
+    })
 
 loop-again : tie.Need-loop-again Inv-loop μ-loop
 loop-again c =
-    let t = c .before .before .before .before .before .before .before .before .before in
-    let l = t .before in
+    let t = c .before .before .before .before .before .before .before .before in
+    let l = loop t in
     let s = start l in
     let a = s .args in
-    let h = t .loop-test .taken in
-    let columns : l .loop .a + 8 * l .before .before .column-bytes .result - l .loop .a ≡ 8 * colBytes (a .rows) = omega (arith, column-is l) in
-    let entries : l .loop .b + 8 * l .before .entry-bytes .result - l .loop .b ≡ 8 * entryBytes (a .seeded) (a .rows) = omega (arith, entry-is l) in (
-      rowed-more (l .loop .inv .0) h (s .pre .rows-long ∙ ap (λ (x : ℕ). a .rows * x) (sym (width l)))
-          (ap₂ (λ (x y : List ℕ). ownEight (colBytes (a .rows)) (getD (a .secret .now) (l .loop .g) 0) x (columnsOf (a .seeded) 8 (a .rows) (a .session .now) y))
-          (ap₂ (λ (x y : ℕ). take x (drop y (a .block .now))) columns (l .loop .inv .2))
-          (ap₂ (λ (x y : ℕ). take x (drop y (a .taken .now))) entries (l .loop .inv .3))
-          ∙ eight-own (codeOf (a .mode)) (a .seeded) (a .rows) (a .session .now) (a .secret .now) (a .block .now) (a .taken .now) (l .loop .g) (omega (arith, h, width l))
-          (s .pre .block-long) (s .pre .taken-long))
-          (c .before .before .before .take-eight .ensures),
+    let C = codeOf (a .mode) in
+    let h : l .loop .g < C .width = rw (width l) at (t .before .before .before .loop-test .taken) in
+    let keep : ℕ = 255 - getD (a .secret .now) (l .loop .g) 0 in (
+      rowed-more (a .rows) keep (eight t) (l .loop .inv .0) h (rows-long l)
+          (c .before .before .gather-eight .ensures
+          ∙ ap₂ (λ (x : ℕ) (y : List ℕ). pick (eightFit (a .rows) x (l .loop .g) (length y) (length (l .loop .q))) (gatheredEight (a .rows) x (l .loop .g) keep y (l .loop .q)) (l .loop .q))
+          (width l) (again t)
+          ∙ picked _ _
+          (eight-fit-holds (a .rows) (C .width) (l .loop .g) (length (eight t)) (length (l .loop .q)) (eight-long t ∙ ap (λ (x : ℕ). 8 * x) (column-is l)) (l .loop .inv .0 .long ∙ rows-long l) h))
+          (taken-at C (a .seeded) (a .rows) (a .session .now) (a .secret .now) (a .block .now) (a .taken .now) (l .loop .g) (eight t) h (s .pre .block-long) (s .pre .taken-long)
+          (omega (arith, c .before .before .before .before .before .before .shared-slice-known5 .given (l .loop .g))) (made t)),
       omega arith,
-      omega (arith, line-next (8 * colBytes (a .rows)) (l .loop .g), column-is l, l .loop .inv .2),
-      omega (arith, line-next (8 * entryBytes (a .seeded) (a .rows)) (l .loop .g), entry-is l, l .loop .inv .3),
-      same-len-mid 0 (8 * l .before .before .column-bytes .result - 0) (l .loop .work) (c .before .before .before .take-eight .last .1 .1 .1 .1 .1 .1 .1 .1 .0) (c .before .before .work2 .given) ∙ l .loop .inv .4,
+      omega (arith, line-next (8 * entry l) (l .loop .g), entry-is l, l .loop .inv .2),
+      work-long t,
     )
 
 returns : tie.Need-returns Inv-loop μ-loop
-unfolding taking rowsOf
 returns c =
     let l = c .before in
     let s = start l in
-    let a = s .args in
-    rowed-end (l .loop .inv .0) (omega arith) (s .pre .rows-long ∙ ap (λ (x : ℕ). a .rows * x) (sym (width l)))
-    ∙ ap (λ (x : ℕ). lines (a .rows) x (λ j i. bitIn (colBytes (a .rows)) (supplied (codeOf (a .mode)) (a .seeded) (a .rows) (a .session .now) (a .secret .now) (a .block .now) (a .taken .now)) i j)) (width l)
+    rowed-end (s .args .rows) (l .loop .inv .0) (omega (arith, width l)) (rows-long l) (length-taking (codeOf (s .args .mode)) (s .args .rows) _ _ _)
 
 pub take-rows-spec : {M : Type 1} → statement M
 take-rows-spec =
@@ -120,26 +139,33 @@ take-rows-spec =
     μ-loop
     (λ c κs. search needs)
     (λ c κs. search needs)
+    (λ c κs. search needs)
     (λ c. search needs)
     (λ c κs. search needs)
     (λ c. search needs)
-    (λ c. (rowed-none _ _ _ _, omega arith, omega arith, omega arith, length-replicate {A = ℕ} 1024 0))
-    (λ c. let l = c .before in omega (arith, columns-inside l (c .loop-test .taken), columns-few l, column-is l))
+    (λ c.
+    let s = c .before .before .before .before .before .before .before .before .before .before .before .before in (
+      rowed-none _ _ (c .before .before .before .before .before .gather-rows .ensures ∙ picked _ _ (rows-fit-holds _ _ _ _ (s .pre .block-long) (s .pre .rows-long))),
+      omega arith,
+      omega arith,
+      length-replicate {A = ℕ} 1024 0,
+    ))
     (λ c. let l = c .before in omega (arith, entries-inside l (c .loop-test .taken), entries-few l, entry-is l))
     (λ c. search needs)
-    (λ c. let l = c .before .before in omega (arith, c .before .loop-test .taken, width l, start l .pre .secret-long))
+    (λ c. search needs)
+    (λ c. let l = c .before in omega (arith, entries-inside l (c .loop-test .taken), entry-is l))
     (λ c. search needs)
     (λ c. search needs)
-    (λ c. let l = c .before .before in omega (arith, entries-inside l (c .before .loop-test .taken), entry-is l))
+    (λ c. let l = c .before .before in omega (arith, column-is l, start l .pre .few, l .loop .inv .3))
+    taken-columns-requires
+    (λ c. search needs)
+    (λ c. let t = c .before .before .before .before .before in omega (arith, t .loop-test .taken, width (t .before), start (t .before) .pre .secret-long))
     (λ c. search needs)
     (λ c. search needs)
-    (λ c. let l = c .before .before .before in omega (arith, columns-inside l (c .before .before .loop-test .taken), column-is l))
-    (λ c. search needs)
-    (λ c. search needs)
-    (λ c. let l = c .before .before .before .before in omega (arith, column-is l, start l .pre .few, l .loop .inv .4))
-    take-eight-requires
+    (λ c. let t = c .before .before .before in omega (arith, work-long t, column-is (loop t), start (loop t) .pre .few))
+    (λ c κs. search needs)
     (λ c. search needs)
     (λ c. search needs)
     loop-again
-    (λ c. c .before .loop .inv .0 .long)
+    (λ c. let l = c .before in l .loop .inv .0 .long ∙ rows-long l ∙ sym (start l .pre .rows-long))
     returns)
