@@ -111,10 +111,10 @@ fn growth_with_rows(results: &Results) -> String {
     growth(results, "m", "row", [true; 3], line)
 }
 
-/// Only answering works on every place.
+/// Answering and opening work on every place.
 fn growth_with_places(results: &Results) -> String {
     let line = PLACES.into_iter().map(|n| (n, 128.0 * f64::from(n), with_places(n)));
-    growth(results, "n", "string", [false, true, false], line)
+    growth(results, "n", "string", [false, true, true], line)
 }
 
 fn percent(share: f64) -> String {
