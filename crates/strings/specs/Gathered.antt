@@ -51,4 +51,5 @@ pub record Folded (at len : ℕ) (old now : List ℕ) : Type 0 where
 -- what stands after the first len bytes were put once more from `at` on, each greater by a number
 pub record PutOn (at len by : ℕ) (old now : List ℕ) : Type 0 where
   pub put : (p : ℕ) → p < len → getD now (at + p) 0 ≡ getD old p 0 + by
-  pub same : (p : ℕ) → p < at → getD now p 0 ≡ getD old p 0
+  pub before : (p : ℕ) → p < at → getD now p 0 ≡ getD old p 0
+  pub after : (p : ℕ) → at + len ≤ p → getD now p 0 ≡ getD old p 0

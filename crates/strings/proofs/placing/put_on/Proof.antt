@@ -1,4 +1,4 @@
--- `strings::placing::put_on` meets its contract. The invariant: p bytes are put from `at` on, and those before are what they were. Assumes nothing.
+-- `strings::placing::put_on` meets its contract. The invariant: p bytes are put from `at` on, and no other byte changed. Assumes nothing.
 use borrow.Author.Needs.{needs}
 use borrow.Author.Count.{below-more}
 use native.Mathlib.Omega.{arith}
@@ -12,6 +12,7 @@ use Rattle.strings.proofs.placing.put_on.Tie as tie
 abbrev Inv-loop : tie.InvT-loop
 Inv-loop at len by places₀ p₀ places p =
     ((q : ℕ) → q < p → getD places (at + q) 0 ≡ getD places₀ q 0 + by) × ((q : ℕ) → q < at → getD places q 0 ≡ getD places₀ q 0) × (p ≤ len) × (length places ≡ length places₀)
+    × ((q : ℕ) → at + len ≤ q → getD places q 0 ≡ getD places₀ q 0)
 
 abbrev μ-loop : tie.MeasureT-loop
 μ-loop at len by places₀ p₀ places p = len - p
@@ -31,12 +32,13 @@ loop-again c =
       λ q hq. getD-set-other (l .loop .places) (a .at + l .loop .p) q v 0 (λ e. omega arith) ∙ l .loop .inv .1 q hq,
       omega (arith, h),
       length-set (l .loop .places) (a .at + l .loop .p) v ∙ l .loop .inv .3,
+      λ q hq. getD-set-other (l .loop .places) (a .at + l .loop .p) q v 0 (λ e. omega (arith, h)) ∙ l .loop .inv .4 q hq,
     )
 
 returns : tie.Need-returns Inv-loop μ-loop
 returns c =
     let l = c .before in
-    record { put = λ q hq. l .loop .inv .0 q (omega (arith, l .loop .inv .2, c .loop-test .left)); same = l .loop .inv .1 }
+    record { put = λ q hq. l .loop .inv .0 q (omega (arith, l .loop .inv .2, c .loop-test .left)); before = l .loop .inv .1; after = l .loop .inv .4 }
 
 pub put-on-spec : {M : Type 1} → statement M
 put-on-spec =
@@ -44,7 +46,7 @@ put-on-spec =
     (tie.spec
     Inv-loop
     μ-loop
-    (λ c. (λ q hq. absurd (omega arith), λ q hq. refl, omega arith, refl))
+    (λ c. (λ q hq. absurd (omega arith), λ q hq. refl, omega arith, refl, λ q hq. refl))
     (λ c. let l = c .before .before in omega (arith, l .loop .inv .3, l .before .pre .0, l .before .pre .1, c .before .loop-test .taken))
     (λ c.
     let l = c .before .before in

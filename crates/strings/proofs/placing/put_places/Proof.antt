@@ -46,7 +46,7 @@ loop-again c =
     let p = l e in
     let a = s e .args in
     let f = d .put-on .ensures in (
-      places-more (a .l) (p .loop .k) (more e) (p .loop .places) (d .put-on .last .1 .1 .1 .0) (less e) (p .loop .inv .0) (f .put) (f .same),
+      places-more (a .l) (p .loop .k) (more e) (p .loop .places) (d .put-on .last .1 .1 .1 .0) (less e) (p .loop .inv .0) (f .put) (f .before),
       omega (arith, p .loop .inv .1),
       omega (arith, e .least .ensures, e .before .loop-test .taken),
       c .before .places .given ∙ p .loop .inv .3,
