@@ -1,17 +1,18 @@
 -- Laws of pads: their length, and how the hashed bytes are put together. Assumes nothing.
 use mathlib.Core.Path.{_≡_, refl, sym, ap, ap₂, _∙_}
 use mathlib.Core.Bool.{true}
-use mathlib.Core.List.{List, [], _++_, append-assoc}
-use Prim.Native.Nat.{ℕ, _+_, _-_, _≤_}
-use native.Mathlib.Nat.{sub-zero}
+use mathlib.Core.List.{List, [], _++_, append-nil}
+use Prim.Native.Nat.{ℕ, _+_, _-_, _≤_, _<_}
+use native.Mathlib.Nat.{sub-zero, min-eq-left}
 use native.Mathlib.Omega.{arith}
-use lib.ListN.{length, take, drop, length-append}
-use lib.Seq.{take-at, take-all, getD-take}
+use lib.ListN.{length, getD, take, drop, replicate, length-append, length-take}
+use lib.Seq.{ext-getD, drop-at, take-all, take-append-add, getD-take}
+use lib.Bits.{bitXor, xor-zero-l}
 use borrow.Author.Tests.{eqb-true, leb-true, eq-eqb, le-leb}
 use borrow.Rule.Slice.PartMut.{putMid}
-use Rattle.basics.specs.Bytes.{Bytes, be32, over, _⊕_}
+use Rattle.basics.specs.Bytes.{Bytes, from, build, be32, over, _⊕_}
 use Rattle.basics.proofs.Choice.{both, picked}
-use Rattle.basics.proofs.Bytes.{over-whole, xor-agree}
+use Rattle.basics.proofs.Bytes.{over-whole, length-build, getD-build, length-xor, getD-xor, xor-agree}
 use Rattle.basics.proofs.Fill.{put-next}
 use Rattle.basics.specs.declared.Verdict.{Verdict}
 use Rattle.basics.specs.Verdicts.{unless, Gives}
@@ -63,27 +64,46 @@ pad-front session j row string h =
     xor-agree string _ _
     (λ p l. getD-take 32 (sha256 (session ++ be32 j ++ row)) p 0 (omega arith) ∙ sym (getD-take (length string) (sha256 (session ++ be32 j ++ row)) p 0 l))
 
--- ---- the hashed bytes, put together from three parts of 48 bytes
+-- ---- the hashed bytes, put together from three parts of 48 zeros
 
-pub three-parts : (d s n r p q t : List ℕ) {x y z : List ℕ} → x ≡ over s p → y ≡ over n q → z ≡ over r t → length s ≡ 12 → length n ≡ 4 → length r ≤ 32
-    → length p ≡ 12 → length q ≡ 4 → length t ≡ 32 → take (16 + length r) (putMid 16 32 (putMid 12 4 (putMid 0 12 d x) y) z) ≡ (s ++ n) ++ r
-unfolding over
-three-parts d s n r p q t {x} {y} {z} ex ey ez hs hn hr hp hq ht =
-    ap (take (16 + length r))
-    (ap₂ (λ (a b : List ℕ). putMid 16 32 (putMid 12 4 (putMid 0 12 d a) b) z) (ex ∙ over-whole s p (hs ∙ sym hp)) (ey ∙ over-whole n q (hn ∙ sym hq))
-    ∙ ap (λ (a : List ℕ). putMid 16 32 (putMid 12 4 a n) z) (put-next 0 12 [] d s refl)
-    ∙ ap (λ (a : List ℕ). putMid 16 32 a z) (put-next 12 4 s (drop 12 d) n hs)
-    ∙ put-next 16 32 (s ++ n) (drop 4 (drop 12 d)) z front
-    ∙ ap (λ (a : List ℕ). ((s ++ n) ++ a) ++ rest) (ez ∙ ap (λ (a : List ℕ). a ++ drop (length r) t) (take-all (length t) r (omega arith)))
-    ∙ ap (λ (a : List ℕ). a ++ rest) (sym (append-assoc (s ++ n) r (drop (length r) t)))
-    ∙ append-assoc ((s ++ n) ++ r) (drop (length r) t) rest)
-    ∙ take-at ((s ++ n) ++ r) (drop (length r) t ++ rest) (16 + length r) (length-append (s ++ n) r ∙ ap (λ (a : ℕ). a + length r) front)
+-- zeros with a string xored over their front hold it there
+zeros-front : (k : ℕ) (r : List ℕ) → length r ≤ k → take (length r) (build k (λ p. 0) ⊕ r) ≡ r
+zeros-front k r h =
+    ext-getD 0 _ r (length-take (length r) (build k (λ p. 0) ⊕ r) ∙ min-eq-left (omega (arith, long)))
+    (λ p l.
+    let f : p < length r = omega (arith, length-take (length r) (build k (λ p. 0) ⊕ r)) in
+    getD-take (length r) (build k (λ p. 0) ⊕ r) p 0 f ∙ getD-xor (build k (λ p. 0)) r p (omega (arith, length-build k (λ p. 0)))
+    ∙ ap (λ (x : ℕ). bitXor x (getD r p 0)) (getD-build k (λ p. 0) p (omega arith)) ∙ xor-zero-l (getD r p 0))
   where
-    front : length (s ++ n) ≡ 16
-    front = length-append s n ∙ omega arith
+    long : length (build k (λ p. 0) ⊕ r) ≡ k
+    long = length-xor (build k (λ p. 0)) r ∙ length-build k (λ p. 0)
 
-    rest : List ℕ
-    rest = drop 32 (drop 4 (drop 12 d))
+module _ (d s n p q : List ℕ) {x y : List ℕ} (zeros : d ≡ replicate 48 0) (ex : x ≡ over s p) (ey : y ≡ over n q) (hs : length s ≡ 12) (hn : length n ≡ 4)
+    (hp : length p ≡ 12) (hq : length q ≡ 4) where
+  front : length (s ++ n) ≡ 16
+  front = length-append s n ∙ omega arith
+
+  -- after the two copies
+  copied : putMid 12 4 (putMid 0 12 d x) y ≡ (s ++ n) ++ replicate 32 0
+  copied =
+      ap₂ (λ (a b : List ℕ). putMid 12 4 (putMid 0 12 d a) b) (ex ∙ over-whole s p (hs ∙ sym hp)) (ey ∙ over-whole n q (hn ∙ sym hq))
+      ∙ ap (λ (a : List ℕ). putMid 12 4 (putMid 0 12 a s) n) zeros
+      ∙ ap (λ (a : List ℕ). putMid 12 4 a n) (put-next 0 12 [] (replicate 48 0) s refl)
+      ∙ put-next 12 4 s (replicate 36 0) n hs
+
+  -- what the row is xored over
+  open-part : take 32 (drop 16 (putMid 12 4 (putMid 0 12 d x) y)) ≡ build 32 (λ p. 0)
+  unfolding build from
+  open-part = ap (λ (a : List ℕ). take 32 (drop 16 a)) copied ∙ ap (take 32) (drop-at (s ++ n) (replicate 32 0) 16 front)
+
+  pub three-parts : (r : List ℕ) {z : List ℕ} → length r ≤ 32 → z ≡ take 32 (drop 16 (putMid 12 4 (putMid 0 12 d x) y)) ⊕ r
+      → take (16 + length r) (putMid 16 32 (putMid 12 4 (putMid 0 12 d x) y) z) ≡ (s ++ n) ++ r
+  three-parts r {z} hr ez =
+      ap (λ (a : List ℕ). take (16 + length r) (putMid 16 32 a z)) copied
+      ∙ ap (take (16 + length r)) (put-next 16 32 (s ++ n) (replicate 32 0) z front ∙ append-nil ((s ++ n) ++ z))
+      ∙ ap (λ (k : ℕ). take (k + length r) ((s ++ n) ++ z)) (sym front)
+      ∙ take-append-add (s ++ n) z (length r)
+      ∙ ap (λ (a : List ℕ). (s ++ n) ++ a) (ap (take (length r)) (ez ∙ ap (λ (a : List ℕ). a ⊕ r) open-part) ∙ zeros-front 32 r hr)
 
 -- ---- the digest
 

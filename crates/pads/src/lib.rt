@@ -2,7 +2,7 @@
 ghost use mathlib.Core.Path.{_≡_};
 ghost use mathlib.Core.List.{_++_};
 ghost use Prim.Native.Nat.{_+_, _≤_};
-ghost use lib.ListN.{length, take};
+ghost use lib.ListN.{length, take, replicate};
 ghost use Rattle.basics.specs.Bytes.{be32};
 ghost use Rattle.pads.specs.Pads.{padBytes, padFit, padMasked};
 use basics::copy;
@@ -22,9 +22,10 @@ fn pad_fit(session: usize, row: usize, string: usize) -> bool
     session == SESSION_BYTES && (row <= MOST_ROW && string <= DIGEST_BYTES)
 }
 
-// Puts the bytes that are hashed into the front of 48 bytes: session, j as four bytes big-endian, row.
+// Puts the bytes that are hashed into the front of 48 zeros: session, j as four bytes big-endian, row. The row is xored over its zeros: a copy whose length is
+// not known is made into two calls of the C library, which a pad would wait for, and an xor is not.
 fn put_input(session: &[u8], j: u32, row: &[u8], input: &mut [u8])
-    requires { ⌜ (length (now session) ≡ 12) × (length (now row) ≤ 32) × (length (now input) ≡ 48) ⌝ }
+    requires { ⌜ (length (now session) ≡ 12) × (length (now row) ≤ 32) × (length (now input) ≡ 48) × (now input ≡ replicate 48 0) ⌝ }
     ensures { λ _. ⌜ take (16 + length (now (row .entry))) (now (input .exit)) ≡ now (session .entry) ++ be32 j ++ now (row .entry) ⌝ }
 {
     let number = [
@@ -35,7 +36,7 @@ fn put_input(session: &[u8], j: u32, row: &[u8], input: &mut [u8])
     ];
     copy(session, &mut input[0..12]);
     copy(&number, &mut input[12..16]);
-    copy(row, &mut input[16..48]);
+    xor_into(row, &mut input[16..48]);
 }
 
 // The pad of (j, row), all the bytes that a digest has.

@@ -9,7 +9,7 @@ use Rattle.pads.proofs.pad.Statement.{statement}
 use Rattle.pads.proofs.pad.Tie as tie
 
 put-input-requires : tie.Need-put-input-requires
-put-input-requires c κs = let s = c .before .before .before in (s .pre .0, s .pre .1, refl)
+put-input-requires c κs = let s = c .before .before .before in (s .pre .0, s .pre .1, refl, refl)
 
 part-hash-end : tie.Need-part-hash-end
 part-hash-end c = omega (arith, c .before .before .before .before .before .before .pre .1, c .before .input2 .given)

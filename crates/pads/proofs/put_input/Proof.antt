@@ -1,4 +1,4 @@
--- `pads::put_input` meets its contract: three copies, one after the other, into parts of 48 bytes. Assumes nothing.
+-- `pads::put_input` meets its contract: two copies and an xor over zeros, one after the other, into parts of 48 bytes. Assumes nothing.
 use borrow.Author.Needs.{needs}
 use native.Mathlib.Omega.{arith}
 use mathlib.Core.Path.{refl}
@@ -13,8 +13,8 @@ returns c =
     let second = third .before .before .before .before in
     let first = second .before .before .before .before .before in
     let s = first .before .before .before .before .before in
-    three-parts (s .args .input .now) (s .args .session .now) _ (s .args .row .now) _ _ _ (first .copy .ensures) (second .copy2 .ensures) (third .copy3 .ensures)
-    (s .pre .0) refl (s .pre .1) (simp (length-take, length-drop) (omega arith)) (simp (length-take, length-drop) (omega arith)) (simp (length-take, length-drop) (omega arith))
+    three-parts (s .args .input .now) (s .args .session .now) _ _ _ (s .pre .3) (first .copy .ensures) (second .copy2 .ensures) (s .pre .0) refl
+    (simp (length-take, length-drop) (omega arith)) (simp (length-take, length-drop) (omega arith)) (s .args .row .now) (s .pre .1) (third .xor-into .ensures)
 
 pub put-input-spec : {M : Type 1} → statement M
 put-input-spec =
