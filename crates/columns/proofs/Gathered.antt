@@ -9,7 +9,6 @@ use native.Mathlib.Omega.{arith}
 use lib.ListN.{length, getD, take, drop, set, length-set, length-take, length-drop}
 use lib.Seq.{ext-getD, getD-set-same, getD-set-other, getD-take, getD-drop}
 use lib.Arith.{digits-lt, digits-div, digits-mod}
-use lib.Bits.{bitXor, bitAnd, and-zero-r, xor-zero-r}
 use lib.Dec.{eqb}
 use borrow.Rule.Slice.PartMut.{putMid, same-len-mid}
 use borrow.Author.Count.{below-more}
@@ -20,38 +19,28 @@ use Rattle.basics.specs.Padding.{colBytes}
 use Rattle.basics.proofs.Choice.{both, picked, unpicked}
 use Rattle.basics.proofs.Bytes.{length-build, getD-build, pack-ext, pos-right, lines-byte}
 use Rattle.basics.proofs.Fill.{put-before, put-inside, put-after}
-use Rattle.columns.specs.Gathered.{gathered, gatheredEight, eightFit, rowsFit, given, withKept}
+use Rattle.columns.specs.Gathered.{gathered, given, joined, eightFit, joinedOver, rowsFit}
 
--- where nothing is kept, nothing is added
-pub kept-none : (x y keep : ℕ) → keep ≡ 0 → bitXor x (bitAnd y keep) ≡ x
-kept-none x y keep e = ap (λ (z : ℕ). bitXor x (bitAnd y z)) e ∙ ap (bitXor x) (and-zero-r y) ∙ xor-zero-r x
+-- ---- rows of `width` bytes in which the first j have f at their byte g, and which hold what they held at every other byte
 
--- ---- rows of `width` bytes in which the first j have f, with what was kept, at their byte g, and which hold what they held at every other byte
-
-pub record Given (f : ℕ → ℕ) (width g keep j : ℕ) (old now : List ℕ) : Type 0 where
+pub record Given (f : ℕ → ℕ) (width g j : ℕ) (old now : List ℕ) : Type 0 where
   pub long : length now ≡ length old
-  pub new : (i : ℕ) → i < j → getD now (i * width + g) 0 ≡ withKept width g keep f old i
+  pub new : (i : ℕ) → i < j → getD now (i * width + g) 0 ≡ f i
   pub same : (p : ℕ) → (p % width ≡ g → p / width < j → ⊥) → getD now p 0 ≡ getD old p 0
 
-pub given-none : (f : ℕ → ℕ) (width g keep : ℕ) (old : List ℕ) → Given f width g keep 0 old old
-given-none f width g keep old = record { long = refl; new = λ i h. absurd (omega arith); same = λ p h. refl }
+pub given-none : (f : ℕ → ℕ) (width g : ℕ) (old : List ℕ) → Given f width g 0 old old
+given-none f width g old = record { long = refl; new = λ i h. absurd (omega arith); same = λ p h. refl }
 
--- from row j on byte g is what it was
-given-ahead : {f : ℕ → ℕ} {width g keep j : ℕ} {old now : List ℕ} → Given f width g keep j old now → g < width
-    → (i : ℕ) → j ≤ i → getD now (i * width + g) 0 ≡ getD old (i * width + g) 0
-given-ahead {width = width} {g} z hg i h = z .same (i * width + g) (λ e l. omega (arith, digits-div i hg))
-
-pub given-more : {f : ℕ → ℕ} {width g keep j at v : ℕ} {old now : List ℕ} → Given f width g keep j old now → g < width → at ≡ j * width + g → at < length old
-    → v ≡ bitXor (f j) (bitAnd (getD now at 0) keep) → Given f width g keep (j + 1) old (set now at v)
-given-more {f} {width} {g} {keep} {j} {at} {v} {old} {now} z hg ha hl hv = record {
+pub given-more : {f : ℕ → ℕ} {width g j at v : ℕ} {old now : List ℕ} → Given f width g j old now → g < width → at ≡ j * width + g → at < length old
+    → v ≡ f j → Given f width g (j + 1) old (set now at v)
+given-more {f} {width} {g} {j} {at} {v} {old} {now} z hg ha hl hv = record {
   long = length-set now at v ∙ z .long;
-  new = below-more (λ (i : ℕ). getD (set now at v) (i * width + g) 0 ≡ withKept width g keep f old i) j
+  new = below-more (λ (i : ℕ). getD (set now at v) (i * width + g) 0 ≡ f i) j
       (λ i h.
       getD-set-other now at (i * width + g) v 0
       (λ e. let same : i ≡ j = sym (digits-div i hg) ∙ ap (λ (p : ℕ). p / width) (e ∙ ha) ∙ digits-div j hg in omega arith)
       ∙ z .new i h)
-      (ap (λ (p : ℕ). getD (set now at v) p 0) (sym ha) ∙ getD-set-same now at v 0 (omega (arith, z .long)) ∙ hv
-      ∙ ap (λ (x : ℕ). bitXor (f j) (bitAnd x keep)) (ap (λ (p : ℕ). getD now p 0) ha ∙ given-ahead z hg j (omega arith)));
+      (ap (λ (p : ℕ). getD (set now at v) p 0) (sym ha) ∙ getD-set-same now at v 0 (omega (arith, z .long)) ∙ hv);
   same = λ p h. getD-set-other now at p v 0
       (λ e.
       let row : p / width ≡ j = ap (λ (x : ℕ). x / width) (e ∙ ha) ∙ digits-div j hg in
@@ -59,15 +48,14 @@ given-more {f} {width} {g} {keep} {j} {at} {v} {old} {now} z hg ha hl hv = recor
       ∙ z .same p (λ e l. h e (omega arith));
 }
 
-pub given-end : {f : ℕ → ℕ} {m width g keep : ℕ} {old now : List ℕ} → Given f width g keep m old now → g < width → length old ≡ m * width
-    → now ≡ given width g (withKept width g keep f old) old
+pub given-end : {f : ℕ → ℕ} {m width g : ℕ} {old now : List ℕ} → Given f width g m old now → g < width → length old ≡ m * width → now ≡ given width g f old
 unfolding given
-given-end {f} {m} {width} {g} {keep} {old} {now} z hg hl =
+given-end {f} {m} {width} {g} {old} {now} z hg hl =
     ext-getD 0 now (build (length old) new) (z .long ∙ sym (length-build (length old) new))
     (λ p h. let hp : p < length old = omega (arith, z .long) in at-place p hp (ℕ-discrete (p % width) g) ∙ sym (getD-build (length old) new p hp))
   where
     new : ℕ → ℕ
-    new p = pick (eqb (p % width) g) (withKept width g keep f old (p / width)) (getD old p 0)
+    new p = pick (eqb (p % width) g) (f (p / width)) (getD old p 0)
 
     at-place : (p : ℕ) → p < length old → Dec (p % width ≡ g) → getD now p 0 ≡ new p
     at-place p hp (yes e) =
@@ -76,17 +64,11 @@ given-end {f} {m} {width} {g} {keep} {old} {now} z hg hl =
         ap (λ (x : ℕ). getD now x 0) split ∙ z .new (p / width) row ∙ sym (picked _ _ (eq-eqb (p % width) g e))
     at-place p hp (no n) = z .same p (λ e l. n e) ∙ sym (unpicked _ _ (ne-eqb (p % width) g n))
 
-pub given-eight : (m width g keep : ℕ) (eight old : List ℕ)
-    → given width g (withKept width g keep (gathered (colBytes m) eight) old) old ≡ gatheredEight m width g keep eight old
-unfolding gatheredEight
-given-eight m width g keep eight old = refl
-
 -- k rows from row j on, lent as a part of n bytes from a, each of which took its byte g
-pub given-part : (k : ℕ) {f u : ℕ → ℕ} {width g keep j a n : ℕ} {old now ys : List ℕ} → Given f width g keep j old now → g < width → a ≡ j * width → n ≡ k * width
-    → a + n ≤ length old → ((i : ℕ) → i < k → u i ≡ f (j + i)) → ys ≡ given width g (withKept width g keep u (take n (drop a now))) (take n (drop a now))
-    → Given f width g keep (j + k) old (putMid a n now ys)
+pub given-part : (k : ℕ) {f u : ℕ → ℕ} {width g j a n : ℕ} {old now ys : List ℕ} → Given f width g j old now → g < width → a ≡ j * width → n ≡ k * width
+    → a + n ≤ length old → ((i : ℕ) → i < k → u i ≡ f (j + i)) → ys ≡ given width g u (take n (drop a now)) → Given f width g (j + k) old (putMid a n now ys)
 unfolding given
-given-part k {f} {u} {width} {g} {keep} {j} {a} {n} {old} {now} {ys} z hg ha hn hl hu hy = record {
+given-part k {f} {u} {width} {g} {j} {a} {n} {old} {now} {ys} z hg ha hn hl hu hy = record {
   long = same-len-mid a n now ys (hylen ∙ sym part) ∙ z .long;
   new = λ i h. row i h (decLt i j);
   same = λ p h. other p h (decLt p a) (decLt p (a + n));
@@ -105,13 +87,12 @@ given-part k {f} {u} {width} {g} {keep} {j} {a} {n} {old} {now} {ys} z hg ha hn 
     held b h = getD-take n (drop a now) b 0 h ∙ getD-drop a now b 0
 
     -- byte b of the part
-    here : (b : ℕ) → b < n → getD (putMid a n now ys) (a + b) 0
-        ≡ pick (eqb (b % width) g) (withKept width g keep u (take n (drop a now)) (b / width)) (getD now (a + b) 0)
+    here : (b : ℕ) → b < n → getD (putMid a n now ys) (a + b) 0 ≡ pick (eqb (b % width) g) (u (b / width)) (getD now (a + b) 0)
     here b h =
         put-inside a n now ys fits hylen b h ∙ ap (λ (s : List ℕ). getD s b 0) hy ∙ getD-build (length (take n (drop a now))) _ b (omega (arith, part))
-        ∙ ap (pick (eqb (b % width) g) (withKept width g keep u (take n (drop a now)) (b / width))) (held b h)
+        ∙ ap (pick (eqb (b % width) g) (u (b / width))) (held b h)
 
-    row : (i : ℕ) → i < j + k → Dec (i < j) → getD (putMid a n now ys) (i * width + g) 0 ≡ withKept width g keep f old i
+    row : (i : ℕ) → i < j + k → Dec (i < j) → getD (putMid a n now ys) (i * width + g) 0 ≡ f i
     row i h (yes l) = put-before a n now ys fits hylen (i * width + g) (omega (arith, digits-lt l hg)) ∙ z .new i l
     row i h (no l) =
         let rest : j + (i - j) ≡ i = omega arith in
@@ -120,10 +101,8 @@ given-part k {f} {u} {width} {g} {keep} {j} {a} {n} {old} {now} {ys} z hg ha hn 
         let hb : b < n = omega (arith, digits-lt inner hg) in
         let place : i * width + g ≡ a + b = sym (ap (λ (x : ℕ). x * width + g) rest) ∙ omega (arith, add-mul j (i - j) width) in
         ap (λ (p : ℕ). getD (putMid a n now ys) p 0) place ∙ here b hb
-        ∙ ap₂ (λ (x y : ℕ). pick (eqb x g) (withKept width g keep u (take n (drop a now)) y) (getD now (a + b) 0)) (digits-mod (i - j) hg) (digits-div (i - j) hg)
-        ∙ picked _ _ (eq-eqb g g refl)
-        ∙ ap₂ (λ (x y : ℕ). bitXor x (bitAnd y keep)) (hu (i - j) inner ∙ ap f rest)
-        (held b hb ∙ ap (λ (p : ℕ). getD now p 0) (sym place) ∙ given-ahead z hg i (omega arith))
+        ∙ ap₂ (λ (x y : ℕ). pick (eqb x g) (u y) (getD now (a + b) 0)) (digits-mod (i - j) hg) (digits-div (i - j) hg)
+        ∙ picked _ _ (eq-eqb g g refl) ∙ hu (i - j) inner ∙ ap f rest
 
     other : (p : ℕ) → (p % width ≡ g → p / width < j + k → ⊥) → Dec (p < a) → Dec (p < a + n) → getD (putMid a n now ys) p 0 ≡ getD old p 0
     other p h (yes l) d = put-before a n now ys fits hylen p l ∙ z .same p (λ e r. h e (omega arith))
@@ -145,11 +124,39 @@ pub row-at : (m width g j : ℕ) → j < m → g < width → j * width + g < m *
 row-at m width g j hj hg = digits-lt hj hg
 
 -- j rows and k more take no more than m rows do
-pub rows-within : (m width j k : ℕ) → j + k ≤ m → j * width + k * width ≤ m * width
+rows-within : (m width j k : ℕ) → j + k ≤ m → j * width + k * width ≤ m * width
 rows-within m width j k h = rw (← add-mul) (mul-le-mul-right width h)
 
-pub rows-rest : (m width j k : ℕ) → j + k ≡ m → m * width - j * width ≡ k * width
-rows-rest m width j k h = omega (arith, add-mul j k width, ap (λ (x : ℕ). x * width) h)
+-- ---- m rows, eight at a time, and last those that are fewer
+
+-- eight rows more stand in the rows
+pub eight-within : (m width b a : ℕ) → b < m / 8 → a ≡ b * 8 * width → a + 8 * width ≤ m * width
+eight-within m width b a h ha = omega (arith, rows-within m width (b * 8) 8 (omega arith))
+
+-- after them fewer than eight are left, to the end
+pub rest-within : (m width b a n : ℕ) → b ≡ m / 8 → a ≡ b * 8 * width → n ≡ m * width → (a ≤ n) × (n - a ≡ m % 8 * width)
+rest-within m width b a n h ha hn =
+    let all : b * 8 + m % 8 ≡ m = omega arith in (
+      omega (arith, rows-within m width (b * 8) (m % 8) (omega arith)),
+      omega (arith, add-mul (b * 8) (m % 8) width, ap (λ (x : ℕ). x * width) all),
+    )
+
+-- eight rows more took their byte g
+pub given-eight : (m : ℕ) {f u : ℕ → ℕ} {width g b a : ℕ} {old now ys : List ℕ} → Given f width g (b * 8) old now → g < width → a ≡ b * 8 * width → length old ≡ m * width
+    → b < m / 8 → ((i : ℕ) → i < 8 → u i ≡ f (b * 8 + i)) → ys ≡ given width g u (take (a + 8 * width - a) (drop a now))
+    → Given f width g ((b + 1) * 8) old (putMid a (a + 8 * width - a) now ys)
+given-eight m {width = width} {g} {b} {a} z hg ha hl h hu hy =
+    let size : a + 8 * width - a ≡ 8 * width = omega arith in
+    let more : b * 8 + 8 ≡ (b + 1) * 8 = omega arith in
+    rw more at (given-part 8 z hg ha size (omega (arith, eight-within m width b a h ha)) hu hy)
+
+-- the rows that are left took theirs
+pub given-rest : (m : ℕ) {f u : ℕ → ℕ} {width g b a : ℕ} {old now ys : List ℕ} → Given f width g (b * 8) old now → g < width → a ≡ b * 8 * width → length old ≡ m * width
+    → b ≡ m / 8 → ((i : ℕ) → i < 8 → u i ≡ f (b * 8 + i)) → ys ≡ given width g u (take (length now - a) (drop a now)) → putMid a (length now - a) now ys ≡ given width g f old
+given-rest m {width = width} {g} {b} {a} {now = now} z hg ha hl h hu hy =
+    let rest = rest-within m width b a (length now) h ha (z .long ∙ hl) in
+    let all : b * 8 + m % 8 ≡ m = omega arith in
+    given-end (rw all at (given-part (m % 8) z hg ha (rest .1) (omega (arith, z .long, rest .0)) (λ i l. hu i (omega arith)) hy)) hg hl
 
 -- ---- rows that have the bytes of `new` below byte g, and those of `old` from it on
 
@@ -161,19 +168,15 @@ pub record Rowed (width g : ℕ) (new old now : List ℕ) : Type 0 where
 pub rowed-none : (width : ℕ) (new : List ℕ) {old now : List ℕ} → now ≡ old → Rowed width 0 new old now
 rowed-none width new e = record { long = ap length e; below = λ p l h. absurd (omega arith); rest = λ p l h. ap (λ (s : List ℕ). getD s p 0) e }
 
-pub rowed-more : (m keep : ℕ) (eight : List ℕ) {width g : ℕ} {new old now next : List ℕ} → Rowed width g new old now → g < width → length old ≡ m * width
-    → next ≡ gatheredEight m width g keep eight now
-    → ((j : ℕ) → j < m → withKept width g keep (gathered (colBytes m) eight) old j ≡ getD new (j * width + g) 0) → Rowed width (g + 1) new old next
-unfolding gatheredEight given
-rowed-more m keep eight {width} {g} {new} {old} {now} {next} z hg hl hn hf = record {
+pub rowed-more : (m : ℕ) (f : ℕ → ℕ) {width g : ℕ} {new old now next : List ℕ} → Rowed width g new old now → g < width → length old ≡ m * width
+    → next ≡ given width g f now → ((j : ℕ) → j < m → f j ≡ getD new (j * width + g) 0) → Rowed width (g + 1) new old next
+unfolding given
+rowed-more m f {width} {g} {new} {old} {now} {next} z hg hl hn hf = record {
   long = ap length hn ∙ length-build (length now) _ ∙ z .long;
   below = λ p l h. byte p l ∙ side p l h (ℕ-discrete (p % width) g);
   rest = λ p l h. byte p l ∙ unpicked _ _ (ne-eqb (p % width) g (λ e. omega arith)) ∙ z .rest p l (omega arith);
 }
   where
-    f : ℕ → ℕ
-    f = withKept width g keep (gathered (colBytes m) eight) now
-
     byte : (p : ℕ) → p < length old → getD next p 0 ≡ pick (eqb (p % width) g) (f (p / width)) (getD now p 0)
     byte p l = ap (λ (s : List ℕ). getD s p 0) hn ∙ getD-build (length now) _ p (omega (arith, z .long))
 
@@ -181,10 +184,7 @@ rowed-more m keep eight {width} {g} {new} {old} {now} {next} z hg hl hn hf = rec
     side p l h (yes e) =
         let row : p / width < m = div-lt-iff-lt-mul {k = width} (omega arith) .1 (omega arith) in
         let split : p / width * width + g ≡ p = ap (λ (x : ℕ). p / width * width + x) (sym e) ∙ div-add-mod' p width in
-        picked _ _ (eq-eqb (p % width) g e)
-        ∙ ap (λ (x : ℕ). bitXor (gathered (colBytes m) eight (p / width)) (bitAnd x keep))
-        (ap (λ (x : ℕ). getD now x 0) split ∙ z .rest p l (omega arith) ∙ ap (λ (x : ℕ). getD old x 0) (sym split))
-        ∙ hf (p / width) row ∙ ap (λ (x : ℕ). getD new x 0) split
+        picked _ _ (eq-eqb (p % width) g e) ∙ hf (p / width) row ∙ ap (λ (x : ℕ). getD new x 0) split
     side p l h (no n) = unpicked _ _ (ne-eqb (p % width) g n) ∙ z .below p l (omega arith)
 
 pub rowed-end : (m : ℕ) {width g : ℕ} {new old now : List ℕ} → Rowed width g new old now → width ≤ g → length old ≡ m * width → length new ≡ m * width → now ≡ new
@@ -203,29 +203,36 @@ gathered-lent c g j cols eight hj h =
     pack-ext 8 _ _
     (λ e he. ap (λ (x : ℕ). bit x (j % 8)) (h (e * c + j / 8) (digits-lt he hj) ∙ ap (λ (p : ℕ). getD cols p 0) (lent-at g c e (j / 8))))
 
--- with nothing kept they are the row's byte
-pub gathered-row : (m width g : ℕ) (cols eight old : List ℕ) → g < width → eight ≡ take (8 * colBytes m) (drop (g * (8 * colBytes m)) cols) → (j : ℕ) → j < m
-    → withKept width g 0 (gathered (colBytes m) eight) old j ≡ getD (lines m width (λ j i. bitIn (colBytes m) cols i j)) (j * width + g) 0
-gathered-row m width g cols eight old hg he j hj =
-    kept-none (gathered (colBytes m) eight j) (getD old (j * width + g) 0) 0 refl ∙ gathered-lent (colBytes m) g j cols eight (omega arith)
+-- they give the row's byte
+pub gathered-row : (m width g : ℕ) (cols eight : List ℕ) → g < width → eight ≡ take (8 * colBytes m) (drop (g * (8 * colBytes m)) cols) → (j : ℕ) → j < m
+    → gathered (colBytes m) eight j ≡ getD (lines m width (λ j i. bitIn (colBytes m) cols i j)) (j * width + g) 0
+gathered-row m width g cols eight hg he j hj =
+    gathered-lent (colBytes m) g j cols eight (omega arith)
     (λ p h. ap (λ (s : List ℕ). getD s p 0) he ∙ getD-take _ (drop (g * (8 * colBytes m)) cols) p 0 h ∙ getD-drop _ cols p 0)
     ∙ sym (lines-byte m width _ j g hj hg)
 
 -- ---- what the guards say
 
-pub record EightFit (m width g eight old : ℕ) : Type 0 where
+pub record EightFit (m width g eight others old : ℕ) : Type 0 where
   pub eight-long : eight ≡ 8 * colBytes m
+  pub others-long : others ≡ 8 * colBytes m
   pub rows-long : old ≡ m * width
   pub place : g < width
 
-pub eight-fit-passed : (m width g eight old : ℕ) → eightFit m width g eight old ≡ true → EightFit m width g eight old
-eight-fit-passed m width g eight old e =
-    let (a, b) = both _ _ e in
-    let (c, d) = both _ _ b in
-    record { eight-long = eqb-true _ _ a; rows-long = eqb-true _ _ c; place = ltb-true _ _ d }
+pub eight-fit-passed : (m width g eight others old : ℕ) → eightFit m width g eight others old ≡ true → EightFit m width g eight others old
+eight-fit-passed m width g eight others old e =
+    let (a, r) = both _ _ e in
+    let (b, t) = both _ _ r in
+    let (c, d) = both _ _ t in
+    record { eight-long = eqb-true _ _ a; others-long = eqb-true _ _ b; rows-long = eqb-true _ _ c; place = ltb-true _ _ d }
 
-pub eight-fit-holds : (m width g eight old : ℕ) → eight ≡ 8 * colBytes m → old ≡ m * width → g < width → eightFit m width g eight old ≡ true
-eight-fit-holds m width g eight old a b h = simp (eq-eqb eight (8 * colBytes m) a, eq-eqb old (m * width) b, lt-ltb g width h)
+-- what a caller learns where the lengths fit
+pub joined-fits : (m width g keep : ℕ) (eight others old : List ℕ) → EightFit m width g (length eight) (length others) (length old)
+    → joinedOver m width g keep eight others old ≡ given width g (joined (colBytes m) keep eight others) old
+unfolding joinedOver
+joined-fits m width g keep eight others old f =
+    picked {t = eightFit m width g (length eight) (length others) (length old)} _ _
+    (simp (eq-eqb (length eight) (8 * colBytes m) (f .eight-long), eq-eqb (length others) (8 * colBytes m) (f .others-long), eq-eqb (length old) (m * width) (f .rows-long), lt-ltb g width (f .place)))
 
 pub rows-fit-passed : (width m columns old : ℕ) → rowsFit width m columns old ≡ true → (columns ≡ width * (8 * colBytes m)) × (old ≡ m * width)
 rows-fit-passed width m columns old e =

@@ -5,7 +5,7 @@ use mathlib.Core.List.{List}
 use Prim.Native.Nat.{ℕ, zero, suc, _+_, _-_, _*_, _/_, _%_, _^_, _≤_, _<_, min}
 use native.Mathlib.Nat.{mod-lt, zero-add, min-zero, min-eq-left, lt-of-le-of-lt, lt-of-lt-of-le, le-of-suc-le-suc}
 use native.Mathlib.Omega.{arith}
-use lib.Bits.{bitXor, bitAnd, differ, xor-lt, and-le-l}
+use lib.Bits.{bitXor, bitAnd, differ, xor-lt, and-le-l, xor-shr, xor-mod, and-shr, and-mod}
 use lib.Dec.{eqb, leb, ltb}
 use lib.ListN.{getD}
 use lib.Pow.{pow-pos, shr-le, pow-mono}
@@ -16,8 +16,8 @@ use Rattle.basics.proofs.Choice.{both}
 use Rattle.basics.proofs.Bytes.{bit-small, bit-xor, pack-bit, pack-ext, pack-of, pack-small}
 use Rattle.basics.proofs.Bits.{pack-append, pack-field, bit-and, bit-shr, bit-shl, bit-shl-low, bit-cut, every, every-at}
 use Rattle.words.proofs.Parity.{differ-zero}
-use Rattle.columns.specs.Turned.{eightBytes, swapped, turned, byteOf}
-use Rattle.columns.specs.Gathered.{gathered}
+use Rattle.columns.specs.Turned.{eightBytes, swapped, turned, byteOf, eightTimes, joinedWords}
+use Rattle.columns.specs.Gathered.{gathered, joined}
 
 -- ---- digits that differ
 
@@ -229,3 +229,34 @@ module _ (c : ℕ) (eight : List ℕ) (byte : ℕ) where
 pub byteOf-word : (c b : ℕ) (eight : List ℕ) {n v w : ℕ} → n ≡ c → v ≡ eightBytes n eight b → w ≡ turned v → (i : ℕ) → i < 8 → byteOf w i ≡ gathered c eight (b * 8 + i)
 byteOf-word c b eight {n} {v} {w} hn hv hw i h =
     ap (λ (x : ℕ). byteOf x i) (hw ∙ ap turned (hv ∙ ap (λ (x : ℕ). eightBytes x eight b) hn)) ∙ byteOf-turned c eight b i h
+
+-- ---- joined numbers, byte by byte
+
+byteOf-joined : (keep first other i : ℕ) → byteOf (joinedWords keep first other) i ≡ bitXor (byteOf first i) (bitAnd (byteOf other i) (byteOf keep i))
+byteOf-joined keep first other i =
+    ap (λ (x : ℕ). x % 2 ^ 8) (xor-shr first (bitAnd other keep) (i * 8) ∙ ap (bitXor (first / 2 ^ (i * 8))) (and-shr other keep (i * 8)))
+    ∙ xor-mod (first / 2 ^ (i * 8)) (bitAnd (other / 2 ^ (i * 8)) (keep / 2 ^ (i * 8))) 8
+    ∙ ap (bitXor (byteOf first i)) (and-mod (other / 2 ^ (i * 8)) (keep / 2 ^ (i * 8)) 8)
+
+-- every byte of a byte eight times over is that byte: one test over all of both
+abbrev repeats : ℕ → Bool
+repeats n = eqb (byteOf (n / 8 * 0x0101010101010101) (n % 8)) (n / 8)
+
+all-repeat : every 2048 repeats ≡ true
+all-repeat = refl
+
+byteOf-times : (x i : ℕ) → x < 256 → i < 8 → byteOf (eightTimes x) i ≡ x
+unfolding eightTimes
+byteOf-times x i hx hi =
+    let high : (x * 8 + i) / 8 ≡ x = omega arith in
+    let low : (x * 8 + i) % 8 ≡ i = omega arith in
+    ap₂ (λ (y e : ℕ). byteOf (y * 0x0101010101010101) e) (sym high) (sym low)
+    ∙ eqb-true _ _ (every-at 2048 repeats all-repeat (x * 8 + i) (omega arith)) ∙ high
+
+-- numbers that are turned and joined have for byte i what both sets give to row i of eight
+pub byteOf-both : (c b keep : ℕ) (eight others : List ℕ) {n k w : ℕ} → n ≡ c → keep < 256 → k ≡ eightTimes keep
+    → w ≡ joinedWords k (turned (eightBytes n eight b)) (turned (eightBytes n others b)) → (i : ℕ) → i < 8 → byteOf w i ≡ joined c keep eight others (b * 8 + i)
+byteOf-both c b keep eight others {n} {k} {w} hn small hk hw i h =
+    ap (λ (x : ℕ). byteOf x i) hw ∙ byteOf-joined k _ _ i
+    ∙ ap₂ bitXor (byteOf-word c b eight hn refl refl i h)
+    (ap₂ bitAnd (byteOf-word c b others hn refl refl i h) (ap (λ (x : ℕ). byteOf x i) hk ∙ byteOf-times keep i small h))

@@ -2,7 +2,7 @@
 use mathlib.Core.Path.{_≡_}
 use mathlib.Core.Bool.{Bool, _&&_}
 use mathlib.Core.List.{List}
-use Prim.Native.Nat.{ℕ, _+_, _*_, _/_, _%_, _≤_}
+use Prim.Native.Nat.{ℕ, _*_, _/_, _%_, _≤_}
 use lib.Bits.{bitXor, bitAnd}
 use lib.Dec.{eqb, ltb}
 use lib.ListN.{length, getD}
@@ -19,17 +19,18 @@ gathered c eight j = pack 8 (λ e. bitIn c eight e j)
 unfoldable pub given : ℕ → ℕ → (ℕ → ℕ) → List ℕ → List ℕ
 given width g f old = build (length old) (λ p. pick (eqb (p % width) g) (f (p / width)) (getD old p 0))
 
--- f i xor what `keep` leaves of the byte g that row i has in `old`
-abbrev pub withKept : ℕ → ℕ → ℕ → (ℕ → ℕ) → List ℕ → ℕ → ℕ
-withKept width g keep f old i = bitXor (f i) (bitAnd (getD old (i * width + g) 0) keep)
+-- the byte that eight columns and eight others give to row j together: the first's xor what `keep` leaves of the others'
+abbrev pub joined : ℕ → ℕ → List ℕ → List ℕ → ℕ → ℕ
+joined c keep eight others j = bitXor (gathered c eight j) (bitAnd (gathered c others j) keep)
 
--- rows after eight columns gave each its byte g, xored with what `keep` leaves of the one that stood there
-unfoldable pub gatheredEight : ℕ → ℕ → ℕ → ℕ → List ℕ → List ℕ → List ℕ
-gatheredEight m width g keep eight old = given width g (withKept width g keep (gathered (colBytes m) eight) old) old
+-- by their lengths: eight columns of m rows, eight others, and m rows of more than g bytes
+abbrev pub eightFit : ℕ → ℕ → ℕ → ℕ → ℕ → ℕ → Bool
+eightFit m width g eight others old = eqb eight (8 * colBytes m) && (eqb others (8 * colBytes m) && (eqb old (m * width) && ltb g width))
 
--- by their lengths: eight columns of m rows, and m rows of more than g bytes
-abbrev pub eightFit : ℕ → ℕ → ℕ → ℕ → ℕ → Bool
-eightFit m width g eight old = eqb eight (8 * colBytes m) && (eqb old (m * width) && ltb g width)
+-- rows after eight columns and eight others gave each its byte g, and as they were where the lengths do not fit
+unfoldable pub joinedOver : ℕ → ℕ → ℕ → ℕ → List ℕ → List ℕ → List ℕ → List ℕ
+joinedOver m width g keep eight others old =
+    pick (eightFit m width g (length eight) (length others) (length old)) (given width g (joined (colBytes m) keep eight others) old) old
 
 -- by their lengths: a whole set of columns for words of `width` bytes, and the rows that it fills
 abbrev pub rowsFit : ℕ → ℕ → ℕ → ℕ → Bool

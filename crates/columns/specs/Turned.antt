@@ -23,3 +23,11 @@ turned w = pack 64 (λ n. bit w (n % 8 * 8 + n / 8))
 -- byte i of the number w
 abbrev pub byteOf : ℕ → ℕ → ℕ
 byteOf w i = w / 2 ^ (i * 8) % 256
+
+-- a byte, eight times over
+unfoldable pub eightTimes : ℕ → ℕ
+eightTimes x = x * 0x0101010101010101
+
+-- two numbers joined: the first xor what `keep` leaves of the other
+abbrev pub joinedWords : ℕ → ℕ → ℕ → ℕ
+joinedWords keep first other = bitXor first (bitAnd other keep)

@@ -8,11 +8,11 @@ ghost use Rattle.basics.specs.Padding.{colBytes};
 ghost use Rattle.words.specs.Code.{codeOf};
 ghost use Rattle.construction.specs.Transfer.{rows as rowsOf};
 ghost use Rattle.columns.specs.Turned.{eightBytes, swapped, turned, byteOf};
-ghost use Rattle.columns.specs.Gathered.{gatheredEight, eightFit, rowsFit, RowBytes, given, withKept};
+ghost use Rattle.columns.specs.Gathered.{gathered, given, rowsFit, RowBytes};
 use wire::CHOICES;
 
 // Byte number `byte` of each of eight columns of c bytes, as one number, the first column's lowest.
-fn eight_bytes(c: usize, eight: &[u8], byte: usize) -> u64
+pub(crate) fn eight_bytes(c: usize, eight: &[u8], byte: usize) -> u64
     requires { ⌜ (length (now eight) ≡ 8 * c) × (byte < c) × (c < 65536) ⌝ }
     ensures { λ r. ⌜ r ≡ eightBytes c (now (eight .entry)) byte ⌝ }
 {
@@ -36,7 +36,7 @@ fn swap(x: u64, mask: u64, by: usize) -> u64
 
 // Eight bytes turned: bit s of byte e becomes bit e of byte s. Single bits change places across the diagonal, then pairs, then fours, so that eight rows
 // have their bytes after three steps and not after 64.
-fn turn(w: u64) -> u64
+pub(crate) fn turn(w: u64) -> u64
     ensures { λ r. ⌜ r ≡ turned w ⌝ }
 {
     let singles = swap(w, 0x00aa_00aa_00aa_00aa, 7);
@@ -44,21 +44,15 @@ fn turn(w: u64) -> u64
     swap(pairs, 0x0000_0000_f0f0_f0f0, 28)
 }
 
-// Gives each of `count` rows, which are no more than eight, its byte g: row i has byte i of w, xor what `keep` leaves of the byte that stood there. Of fresh
-// rows nothing is kept, and so nothing is read, which saves time. `keep` itself may not tell that: it may come of a secret, and then nothing branches on it.
-fn give_word(w: u64, count: usize, width: usize, g: usize, fresh: bool, keep: u8, out: &mut [u8])
-    requires { ⌜ (count ≤ 8) × (length (now out) ≡ count * width) × (g < width) × (width < 65536) × (keep ≡ pick fresh 0 keep) ⌝ }
-    ensures { λ _. ⌜ now (out .exit) ≡ given width g (withKept width g keep (byteOf w) (now (out .entry))) (now (out .entry)) ⌝ }
+// Gives each of `count` rows, which are no more than eight, its byte g: row i has byte i of w.
+pub(crate) fn give_word(w: u64, count: usize, width: usize, g: usize, out: &mut [u8])
+    requires { ⌜ (count ≤ 8) × (length (now out) ≡ count * width) × (g < width) × (width < 65536) ⌝ }
+    ensures { λ _. ⌜ now (out .exit) ≡ given width g (byteOf w) (now (out .entry)) ⌝ }
 {
     let mut i = 0;
     let mut at = g;
     while i < count {
-        let byte = ((w >> (i * 8)) % 256) as u8;
-        if fresh {
-            out[at] = byte;
-        } else {
-            out[at] = byte ^ (out[at] & keep);
-        }
+        out[at] = ((w >> (i * 8)) % 256) as u8;
         at += width;
         i += 1;
     }
@@ -66,9 +60,9 @@ fn give_word(w: u64, count: usize, width: usize, g: usize, fresh: bool, keep: u8
 
 // Gives each row its byte g, eight rows at a time, and last the rows that are fewer than eight. `rows` and `width` come in their own small types, since the
 // compiler makes a faster loop where it knows how small they are.
-fn give_bytes(rows: u16, width: u8, g: usize, fresh: bool, keep: u8, eight: &[u8], out: &mut [u8])
-    requires { ⌜ (length (now eight) ≡ 8 * colBytes rows) × (length (now out) ≡ rows * width) × (g < width) × (keep ≡ pick fresh 0 keep) ⌝ }
-    ensures { λ _. ⌜ now (out .exit) ≡ gatheredEight rows width g keep (now (eight .entry)) (now (out .entry)) ⌝ }
+fn give_bytes(rows: u16, width: u8, g: usize, eight: &[u8], out: &mut [u8])
+    requires { ⌜ (length (now eight) ≡ 8 * colBytes rows) × (length (now out) ≡ rows * width) × (g < width) ⌝ }
+    ensures { λ _. ⌜ now (out .exit) ≡ given width g (gathered (colBytes rows) (now (eight .entry))) (now (out .entry)) ⌝ }
 {
     let m = rows as usize;
     let w = width as usize;
@@ -79,51 +73,12 @@ fn give_bytes(rows: u16, width: u8, g: usize, fresh: bool, keep: u8, eight: &[u8
     let mut a = 0;
     while b < whole {
         let e = a + step;
-        give_word(
-            turn(eight_bytes(c, eight, b)),
-            8,
-            w,
-            g,
-            fresh,
-            keep,
-            &mut out[a..e],
-        );
+        give_word(turn(eight_bytes(c, eight, b)), 8, w, g, &mut out[a..e]);
         a = e;
         b += 1;
     }
     if b < c {
-        give_word(
-            turn(eight_bytes(c, eight, b)),
-            m % 8,
-            w,
-            g,
-            fresh,
-            keep,
-            &mut out[a..],
-        );
-    }
-}
-
-// Eight columns of m rows, and m rows of more than g bytes.
-fn eight_fit(m: usize, width: usize, g: usize, eight: usize, out: usize) -> bool
-    requires { ⌜ (m < 65536) × (width < 65536) ⌝ }
-    ensures { λ r. ⌜ r ≡ eightFit m width g eight out ⌝ }
-{
-    if eight != 8 * ((m + 7) / 8) {
-        return false;
-    }
-    if out != m * width {
-        return false;
-    }
-    g < width
-}
-
-// Gives each row its byte g from eight columns, xor what `keep` leaves of the byte that stood there; nothing where the lengths do not fit.
-pub fn gather_eight(rows: u16, width: u8, g: usize, keep: u8, eight: &[u8], out: &mut [u8])
-    ensures { λ _. ⌜ now (out .exit) ≡ pick (eightFit rows width g (length (now (eight .entry))) (length (now (out .entry)))) (gatheredEight rows width g keep (now (eight .entry)) (now (out .entry))) (now (out .entry)) ⌝ }
-{
-    if eight_fit(rows as usize, width as usize, g, eight.len(), out.len()) {
-        give_bytes(rows, width, g, false, keep, eight, out);
+        give_word(turn(eight_bytes(c, eight, b)), m % 8, w, g, &mut out[a..]);
     }
 }
 
@@ -145,7 +100,7 @@ fn give_rows(rows: u16, width: u8, columns: &[u8], out: &mut [u8])
     let mut a = 0;
     while g < w {
         let e = a + eight;
-        give_bytes(rows, width, g, true, 0, &columns[a..e], out);
+        give_bytes(rows, width, g, &columns[a..e], out);
         a = e;
         g += 1;
     }

@@ -15,10 +15,10 @@ use Rattle.basics.specs.Padding.{colBytes}
 use Rattle.basics.proofs.Bytes.{length-build, getD-build, getD-line, pos-right, zeros-xor}
 use Rattle.basics.proofs.Choice.{picked}
 use Rattle.words.specs.Code.{Code, k, codeOf}
-use Rattle.construction.specs.Transfer.{rows, taking}
+use Rattle.construction.specs.Transfer.{taking}
 use Rattle.construction.proofs.Bytewise.{rows-byte, taking-byte}
 use Rattle.columns.specs.Sets.{seedColumn, expanded, columnsOf, entryBytes, setFit}
-use Rattle.columns.specs.Gathered.{gathered, withKept}
+use Rattle.columns.specs.Gathered.{joined}
 use Rattle.columns.proofs.Sets.{set-fit-passed, length-columnsOf}
 use Rattle.columns.proofs.Gathered.{gathered-lent}
 use Rattle.columns.proofs.Sizes.{k-of}
@@ -108,14 +108,18 @@ module _ (C : Code) (seeded : Bool) (m : ℕ) (session secret block taken : List
   abbrev pub rowsQ : List ℕ
   rowsQ = taking C m secret block theirs
 
-  -- byte g of row j, from the eight columns of the entries 8g on
-  pub taken-at : (g : ℕ) (eight : List ℕ) → g < C .width → length block ≡ C .width * (8 * colBytes m) → length taken ≡ C .width * (8 * entryBytes seeded m)
-      → getD secret g 0 < 256 → eight ≡ columnsOf seeded 8 m session (take (8 * entryBytes seeded m) (drop (g * (8 * entryBytes seeded m)) taken)) → (j : ℕ) → j < m
-      → withKept (C .width) g (255 - getD secret g 0) (gathered (colBytes m) eight) (rows C m block) j ≡ getD rowsQ (j * C .width + g) 0
-  taken-at g eight hg hb ht hs he j hj =
-      ap (λ (x : ℕ). bitXor x (bitAnd (getD (rows C m block) (j * C .width + g) 0) (255 - getD secret g 0)))
+  -- byte g of row j, from the eight columns of the entries 8g on and the message's from column 8g on
+  pub taken-at : (g : ℕ) (eight others : List ℕ) → g < C .width → length block ≡ C .width * (8 * colBytes m) → length taken ≡ C .width * (8 * entryBytes seeded m)
+      → getD secret g 0 < 256 → eight ≡ columnsOf seeded 8 m session (take (8 * entryBytes seeded m) (drop (g * (8 * entryBytes seeded m)) taken))
+      → others ≡ take (8 * colBytes m) (drop (g * (8 * colBytes m)) block) → (j : ℕ) → j < m
+      → joined (colBytes m) (255 - getD secret g 0) eight others j ≡ getD rowsQ (j * C .width + g) 0
+  taken-at g eight others hg hb ht hs he ho j hj =
+      ap₂ (λ (x y : ℕ). bitXor x (bitAnd y (255 - getD secret g 0)))
       (gathered-lent (colBytes m) g j theirs eight (omega arith) (λ p hp. ap (λ (s : List ℕ). getD s p 0) he ∙ columns-lent seeded m g (C .width) session taken hg ht p hp)
       ∙ sym (rows-byte C m theirs j g hj hg))
+      (gathered-lent (colBytes m) g j block others (omega arith)
+      (λ p hp. ap (λ (s : List ℕ). getD s p 0) ho ∙ getD-take _ (drop (g * (8 * colBytes m)) block) p 0 hp ∙ getD-drop _ block p 0)
+      ∙ sym (rows-byte C m block j g hj hg))
       ∙ sym (taking-byte C m secret block theirs j g (hb ∙ sym (mul-assoc (C .width) 8 (colBytes m))) hs hj hg)
 
 -- ---- the rows that stand in a workspace

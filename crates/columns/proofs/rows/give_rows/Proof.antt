@@ -9,6 +9,7 @@ use lib.ListN.{length, take, drop, length-take, length-drop}
 use Rattle.basics.specs.Bytes.{bitIn, lines}
 use Rattle.basics.specs.Padding.{colBytes}
 use Rattle.basics.proofs.Bytes.{line-next, length-lines}
+use Rattle.columns.specs.Gathered.{gathered}
 use Rattle.columns.proofs.Gathered.{Rowed, rowed-none, rowed-more, rowed-end, gathered-row}
 use Rattle.columns.proofs.rows.give_rows.Statement.{statement}
 use Rattle.columns.proofs.rows.give_rows.Tie as tie
@@ -33,7 +34,7 @@ give-bytes-requires c κs =
     let s = l .before .before .before in
     let h = c .before .before .loop-test .taken in
     let room = inside l h in
-    (simp (length-take, length-drop) (omega arith), l .loop .inv .0 .long ∙ s .pre .1, h, refl)
+    (simp (length-take, length-drop) (omega arith), l .loop .inv .0 .long ∙ s .pre .1, h)
 
 loop-again : tie.Need-loop-again Inv-loop μ-loop
 loop-again c =
@@ -44,8 +45,8 @@ loop-again c =
     let room = inside l h in
     let size : l .loop .a + 8 * colBytes m - l .loop .a ≡ 8 * colBytes m = omega arith in
     let part : List ℕ = take (l .loop .a + 8 * colBytes m - l .loop .a) (drop (l .loop .a) (s .args .columns .now)) in (
-      rowed-more m 0 part (l .loop .inv .0) h (s .pre .1) (c .before .before .give-bytes .ensures)
-          (gathered-row m (s .args .width) (l .loop .g) (s .args .columns .now) part (s .args .out .now) h
+      rowed-more m (gathered (colBytes m) part) (l .loop .inv .0) h (s .pre .1) (c .before .before .give-bytes .ensures)
+          (gathered-row m (s .args .width) (l .loop .g) (s .args .columns .now) part h
           (ap₂ (λ (x y : ℕ). take x (drop y (s .args .columns .now))) size (l .loop .inv .2))),
       omega arith,
       omega (arith, line-next (8 * colBytes m) (l .loop .g)),

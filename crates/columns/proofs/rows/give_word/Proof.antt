@@ -1,23 +1,19 @@
 -- `columns::rows::give_word` meets its contract. The invariant: the first i rows have their byte g, and no other byte changed. Assumes nothing.
-use mathlib.Core.Path.{_≡_, refl, sym, _∙_}
-use mathlib.Core.Logic.{⊎-elim}
-use Prim.Native.Nat.{ℕ, _+_, _-_, _*_, _≤_, _<_}
+use mathlib.Core.Path.{_≡_, refl}
+use Prim.Native.Nat.{_+_, _-_, _*_, _≤_, _<_}
 use native.Mathlib.Omega.{arith}
 use borrow.Author.Needs.{needs}
-use lib.Bits.{bitXor, bitAnd}
-use lib.ListN.{getD, set}
 use Rattle.basics.proofs.Bytes.{mul-le-both, line-next}
-use Rattle.basics.proofs.Choice.{picked}
 use Rattle.columns.specs.Turned.{byteOf}
-use Rattle.columns.proofs.Gathered.{kept-none, Given, given-none, given-more, given-end, row-at}
+use Rattle.columns.proofs.Gathered.{Given, given-none, given-more, given-end, row-at}
 use Rattle.columns.proofs.rows.give_word.Statement.{statement}
 use Rattle.columns.proofs.rows.give_word.Tie as tie
 
 abbrev Inv-loop : tie.InvT-loop
-Inv-loop w count width g fresh keep out₀ i₀ at₀ out i at = (Given (byteOf w) width g keep i out₀ out) × (i ≤ count) × (at ≡ i * width + g)
+Inv-loop w count width g out₀ i₀ at₀ out i at = (Given (byteOf w) width g i out₀ out) × (i ≤ count) × (at ≡ i * width + g)
 
 abbrev μ-loop : tie.MeasureT-loop
-μ-loop w count width g fresh keep out₀ i₀ at₀ out i at = count - i
+μ-loop w count width g out₀ i₀ at₀ out i at = count - i
 
 -- the place of the next store stands in the rows
 inside : (l : tie.At-loop Inv-loop μ-loop) → l .loop .i < l .before .args .count → l .loop .at < l .before .args .count * l .before .args .width
@@ -29,14 +25,9 @@ few l = mul-le-both (l .before .args .count) (l .before .args .width) 8 65536 (o
 
 loop-again : tie.Need-loop-again Inv-loop μ-loop
 loop-again c =
-    let l = c .before .before in
-    let a = l .before .args in
-    let byte : ℕ = byteOf (a .w) (l .loop .i) in
-    let old : ℕ = getD (l .loop .out) (l .loop .at) 0 in
-    let more : (v : ℕ) → v ≡ bitXor byte (bitAnd old (a .keep))
-    → Given (byteOf (a .w)) (a .width) (a .g) (a .keep) (l .loop .i + 1) (a .out .now) (set (l .loop .out) (l .loop .at) v)
-    = λ v. given-more (l .loop .inv .0) (omega arith) (l .loop .inv .2) (omega (arith, inside l (c .before .loop-test .taken))) in (
-      ⊎-elim (λ x. rw (x .1) (more _ (sym (kept-none byte old (a .keep) (l .before .pre .4 ∙ picked 0 (a .keep) (x .0 .taken)))))) (λ x. rw (x .2) (more _ refl)) (c .if1 .came),
+    let l = c .before in
+    let a = l .before .args in (
+      given-more (l .loop .inv .0) (omega arith) (l .loop .inv .2) (omega (arith, inside l (c .loop-test .taken))) refl,
       omega arith,
       omega (arith, line-next (a .width) (l .loop .i)),
     )
@@ -53,14 +44,12 @@ give-word-spec =
     (tie.spec
     Inv-loop
     μ-loop
-    (λ c. (given-none _ _ _ _ _, omega arith, omega arith))
+    (λ c. (given-none _ _ _ _, omega arith, omega arith))
     (λ c. omega arith)
     (λ c. omega arith)
     (λ c. omega arith)
-    (λ c. let l = c .before .before in omega (arith, inside l (c .before .loop-test .taken), l .loop .inv .0 .long))
-    (λ c. let l = c .before .before .before in omega (arith, inside l (c .before .before .loop-test .taken), l .loop .inv .0 .long))
-    (λ c. let l = c .before .before .before in omega (arith, inside l (c .before .before .loop-test .taken), l .loop .inv .0 .long))
-    (λ c. let l = c .before .before in omega (arith, inside l (c .before .loop-test .taken), few l))
+    (λ c. let l = c .before in omega (arith, inside l (c .loop-test .taken), l .loop .inv .0 .long))
+    (λ c. let l = c .before in omega (arith, inside l (c .loop-test .taken), few l))
     (λ c. search needs)
     (λ c. search needs)
     loop-again
