@@ -127,36 +127,63 @@ row-at m width g j hj hg = digits-lt hj hg
 rows-within : (m width j k : ℕ) → j + k ≤ m → j * width + k * width ≤ m * width
 rows-within m width j k h = rw (← add-mul) (mul-le-mul-right width h)
 
--- ---- m rows, eight at a time, and last those that are fewer
+-- ---- m rows, eight at a time, and last those that are fewer: the first 8 b have f at their byte g, and the next ones begin at a
 
--- eight rows more stand in the rows
-pub eight-within : (m width b a : ℕ) → b < m / 8 → a ≡ b * 8 * width → a + 8 * width ≤ m * width
-eight-within m width b a h ha = omega (arith, rows-within m width (b * 8) 8 (omega arith))
+pub record ByEight (f : ℕ → ℕ) (m width g b a : ℕ) (old now : List ℕ) : Type 0 where
+  pub so-far : Given f width g (b * 8) old now
+  pub whole : b ≤ m / 8
+  pub begins : a ≡ b * 8 * width
+  pub rows-long : length old ≡ m * width
+  pub place : g < width
 
--- after them fewer than eight are left, to the end
-pub rest-within : (m width b a n : ℕ) → b ≡ m / 8 → a ≡ b * 8 * width → n ≡ m * width → (a ≤ n) × (n - a ≡ m % 8 * width)
-rest-within m width b a n h ha hn =
-    let all : b * 8 + m % 8 ≡ m = omega arith in (
-      omega (arith, rows-within m width (b * 8) (m % 8) (omega arith)),
-      omega (arith, add-mul (b * 8) (m % 8) width, ap (λ (x : ℕ). x * width) all),
-    )
+pub eight-none : (f : ℕ → ℕ) (m width g : ℕ) (old : List ℕ) → length old ≡ m * width → g < width → ByEight f m width g 0 0 old old
+eight-none f m width g old hl hg = record { so-far = given-none f width g old; whole = omega arith; begins = omega arith; rows-long = hl; place = hg }
 
--- eight rows more took their byte g
-pub given-eight : (m : ℕ) {f u : ℕ → ℕ} {width g b a : ℕ} {old now ys : List ℕ} → Given f width g (b * 8) old now → g < width → a ≡ b * 8 * width → length old ≡ m * width
-    → b < m / 8 → ((i : ℕ) → i < 8 → u i ≡ f (b * 8 + i)) → ys ≡ given width g u (take (a + 8 * width - a) (drop a now))
-    → Given f width g ((b + 1) * 8) old (putMid a (a + 8 * width - a) now ys)
-given-eight m {width = width} {g} {b} {a} z hg ha hl h hu hy =
-    let size : a + 8 * width - a ≡ 8 * width = omega arith in
-    let more : b * 8 + 8 ≡ (b + 1) * 8 = omega arith in
-    rw more at (given-part 8 z hg ha size (omega (arith, eight-within m width b a h ha)) hu hy)
+module _ {f : ℕ → ℕ} {m width g b a : ℕ} {old now : List ℕ} (z : ByEight f m width g b a old now) where
+  pub eight-long : length now ≡ m * width
+  eight-long = z .so-far .long ∙ z .rows-long
 
--- the rows that are left took theirs
-pub given-rest : (m : ℕ) {f u : ℕ → ℕ} {width g b a : ℕ} {old now ys : List ℕ} → Given f width g (b * 8) old now → g < width → a ≡ b * 8 * width → length old ≡ m * width
-    → b ≡ m / 8 → ((i : ℕ) → i < 8 → u i ≡ f (b * 8 + i)) → ys ≡ given width g u (take (length now - a) (drop a now)) → putMid a (length now - a) now ys ≡ given width g f old
-given-rest m {width = width} {g} {b} {a} {now = now} z hg ha hl h hu hy =
-    let rest = rest-within m width b a (length now) h ha (z .long ∙ hl) in
-    let all : b * 8 + m % 8 ≡ m = omega arith in
-    given-end (rw all at (given-part (m % 8) z hg ha (rest .1) (omega (arith, z .long, rest .0)) (λ i l. hu i (omega arith)) hy)) hg hl
+  -- eight rows more stand in the rows
+  pub eight-within : b < m / 8 → a + 8 * width ≤ m * width
+  eight-within h = omega (arith, z .begins, rows-within m width (b * 8) 8 (omega arith))
+
+  -- after the last eight the others go to the end
+  pub eight-left : m / 8 ≤ b → (a ≤ length now) × (length now - a ≡ m % 8 * width)
+  eight-left h =
+      let all : b * 8 + m % 8 ≡ m = omega (arith, z .whole) in (
+        omega (arith, eight-long, z .begins, rows-within m width (b * 8) (m % 8) (omega arith)),
+        omega (arith, eight-long, z .begins, add-mul (b * 8) (m % 8) width, ap (λ (x : ℕ). x * width) all),
+      )
+
+  -- eight rows more took their byte g
+  pub eight-more : {u : ℕ → ℕ} {ys : List ℕ} → b < m / 8 → ((i : ℕ) → i < 8 → u i ≡ f (b * 8 + i)) → ys ≡ given width g u (take (a + 8 * width - a) (drop a now))
+      → ByEight f m width g (b + 1) (a + 8 * width) old (putMid a (a + 8 * width - a) now ys)
+  eight-more h hu hy =
+      let size : a + 8 * width - a ≡ 8 * width = omega arith in
+      let more : b * 8 + 8 ≡ (b + 1) * 8 = omega arith in
+      record {
+        so-far = rw more at (given-part 8 (z .so-far) (z .place) (z .begins) size (omega (arith, eight-within h, z .rows-long)) hu hy);
+        whole = omega arith;
+        begins = omega (arith, z .begins, add-mul (b * 8) 8 width);
+        rows-long = z .rows-long;
+        place = z .place;
+      }
+
+  -- the rows that are left took theirs
+  pub eight-rest : {u : ℕ → ℕ} {ys : List ℕ} → m / 8 ≤ b → ((i : ℕ) → i < 8 → u i ≡ f (b * 8 + i)) → ys ≡ given width g u (take (length now - a) (drop a now))
+      → putMid a (length now - a) now ys ≡ given width g f old
+  eight-rest h hu hy =
+      let left = eight-left h in
+      let all : b * 8 + m % 8 ≡ m = omega (arith, z .whole) in
+      given-end
+      (rw all at (given-part (m % 8) (z .so-far) (z .place) (z .begins) (left .1) (omega (arith, z .so-far .long, left .0)) (λ i l. hu i (omega arith)) hy))
+      (z .place) (z .rows-long)
+
+  -- or none were left
+  pub eight-end : m ≤ b * 8 → now ≡ given width g f old
+  eight-end h =
+      let all : b * 8 ≡ m = omega (arith, z .whole) in
+      given-end (rw all at (z .so-far)) (z .place) (z .rows-long)
 
 -- ---- rows that have the bytes of `new` below byte g, and those of `old` from it on
 

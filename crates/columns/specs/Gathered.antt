@@ -19,7 +19,8 @@ gathered c eight j = pack 8 (λ e. bitIn c eight e j)
 unfoldable pub given : ℕ → ℕ → (ℕ → ℕ) → List ℕ → List ℕ
 given width g f old = build (length old) (λ p. pick (eqb (p % width) g) (f (p / width)) (getD old p 0))
 
--- the byte that eight columns and eight others give to row j together: the first's xor what `keep` leaves of the others'
+-- the byte that eight columns and eight others give to row j together: the first's xor what `keep` leaves of the others'. It serves taking (section 5), where
+-- the others are the message's columns and `keep` is the complement of the secret's byte.
 abbrev pub joined : ℕ → ℕ → List ℕ → List ℕ → ℕ → ℕ
 joined c keep eight others j = bitXor (gathered c eight j) (bitAnd (gathered c others j) keep)
 

@@ -1,6 +1,7 @@
 // Joining, for the supplier's rows: eight columns and eight others turned into rows together. A row's byte is the first's xor what `keep` leaves of the others'.
 // `keep` may come of a secret: it is used whole, eight times over in one word, so that there is nothing in it to branch on.
 ghost use mathlib.Core.Path.{_≡_};
+ghost use mathlib.Core.Bool.{true};
 ghost use Prim.Native.Nat.{_*_, _<_};
 ghost use lib.ListN.{length};
 ghost use Rattle.basics.specs.Padding.{colBytes};
@@ -27,7 +28,7 @@ fn joined_word(c: usize, keep: u64, eight: &[u8], others: &[u8], byte: usize) ->
 
 // Gives each row its byte g, eight rows at a time, and last the rows that are fewer than eight.
 fn join_bytes(rows: u16, width: u8, g: usize, keep: u8, eight: &[u8], others: &[u8], out: &mut [u8])
-    requires { ⌜ (length (now eight) ≡ 8 * colBytes rows) × (length (now others) ≡ 8 * colBytes rows) × (length (now out) ≡ rows * width) × (g < width) ⌝ }
+    requires { ⌜ eightFit rows width g (length (now eight)) (length (now others)) (length (now out)) ≡ true ⌝ }
     ensures { λ _. ⌜ now (out .exit) ≡ given width g (joined (colBytes rows) keep (now (eight .entry)) (now (others .entry))) (now (out .entry)) ⌝ }
 {
     let m = rows as usize;

@@ -2,17 +2,16 @@
 use mathlib.Core.Path.{_≡_, refl, sym, ap, ap₂, _∙_}
 use mathlib.Core.Bool.{true}
 use mathlib.Core.List.{List, [], _++_, append-nil}
-use Prim.Native.Nat.{ℕ, _+_, _-_, _≤_, _<_}
-use native.Mathlib.Nat.{sub-zero, min-eq-left}
+use Prim.Native.Nat.{ℕ, _+_, _-_, _≤_}
+use native.Mathlib.Nat.{sub-zero}
 use native.Mathlib.Omega.{arith}
-use lib.ListN.{length, getD, take, drop, replicate, length-append, length-take}
-use lib.Seq.{ext-getD, drop-at, take-all, take-append-add, getD-take}
-use lib.Bits.{bitXor, xor-zero-l}
+use lib.ListN.{length, take, drop, replicate, length-append}
+use lib.Seq.{drop-at, take-all, take-append-add, getD-take}
 use borrow.Author.Tests.{eqb-true, leb-true, eq-eqb, le-leb}
 use borrow.Rule.Slice.PartMut.{putMid}
 use Rattle.basics.specs.Bytes.{Bytes, from, build, be32, over, _⊕_}
 use Rattle.basics.proofs.Choice.{both, picked}
-use Rattle.basics.proofs.Bytes.{over-whole, length-build, getD-build, length-xor, getD-xor, xor-agree}
+use Rattle.basics.proofs.Bytes.{over-whole, length-build, getD-build, xor-agree, xor-front, xor-strings-comm, zeros-xor}
 use Rattle.basics.proofs.Fill.{put-next}
 use Rattle.basics.specs.declared.Verdict.{Verdict}
 use Rattle.basics.specs.Verdicts.{unless, Gives}
@@ -69,14 +68,9 @@ pad-front session j row string h =
 -- zeros with a string xored over their front hold it there
 zeros-front : (k : ℕ) (r : List ℕ) → length r ≤ k → take (length r) (build k (λ p. 0) ⊕ r) ≡ r
 zeros-front k r h =
-    ext-getD 0 _ r (length-take (length r) (build k (λ p. 0) ⊕ r) ∙ min-eq-left (omega (arith, long)))
-    (λ p l.
-    let f : p < length r = omega (arith, length-take (length r) (build k (λ p. 0) ⊕ r)) in
-    getD-take (length r) (build k (λ p. 0) ⊕ r) p 0 f ∙ getD-xor (build k (λ p. 0)) r p (omega (arith, length-build k (λ p. 0)))
-    ∙ ap (λ (x : ℕ). bitXor x (getD r p 0)) (getD-build k (λ p. 0) p (omega arith)) ∙ xor-zero-l (getD r p 0))
-  where
-    long : length (build k (λ p. 0) ⊕ r) ≡ k
-    long = length-xor (build k (λ p. 0)) r ∙ length-build k (λ p. 0)
+    xor-front r (build k (λ p. 0)) (rw length-build h)
+    ∙ xor-agree r _ (build (length r) (λ p. 0)) (λ p l. getD-build k (λ p. 0) p (omega arith) ∙ sym (getD-build (length r) (λ p. 0) p l))
+    ∙ xor-strings-comm r (build (length r) (λ p. 0)) (sym (length-build (length r) (λ p. 0))) ∙ zeros-xor (length r) r refl
 
 module _ (d s n p q : List ℕ) {x y : List ℕ} (zeros : d ≡ replicate 48 0) (ex : x ≡ over s p) (ey : y ≡ over n q) (hs : length s ≡ 12) (hn : length n ≡ 4)
     (hp : length p ≡ 12) (hq : length q ≡ 4) where

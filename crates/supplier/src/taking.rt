@@ -1,5 +1,5 @@
 // Taking, document 01, section 5: the rows q from the received columns and those that were taken. Where the secret has 0 the message's bit is xored in. That
-// is done on whole bytes of rows, after both sets of columns are turned into them: a mask made of one bit of the secret is one that a compiler may turn into a branch.
+// is done on whole bytes, after both sets of columns are turned into rows: a mask made of one bit of the secret is one that a compiler may make a branch of.
 ghost use mathlib.Core.Path.{_≡_};
 ghost use mathlib.Core.Bool.{true};
 ghost use lib.ListN.{length};

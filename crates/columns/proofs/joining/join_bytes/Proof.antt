@@ -1,86 +1,69 @@
--- `columns::joining::join_bytes` meets its contract. The invariant: the first 8 b rows have their byte g, and no other byte changed. Assumes nothing.
-use mathlib.Core.Path.{_≡_, refl, _∙_}
-use Prim.Native.Nat.{ℕ, _+_, _-_, _*_, _/_, _%_, _≤_, _<_}
-use native.Mathlib.Nat.{add-mul}
+-- `columns::joining::join_bytes` meets its contract: the rows take their byte g eight at a time. Assumes nothing.
+use mathlib.Core.Path.{refl, _∙_}
+use Prim.Native.Nat.{_-_, _*_, _≤_}
 use native.Mathlib.Omega.{arith}
 use borrow.Author.Needs.{needs}
 use lib.ListN.{length, length-take, length-drop}
 use Rattle.basics.specs.Padding.{colBytes}
 use Rattle.basics.proofs.Bytes.{mul-le-both}
 use Rattle.columns.specs.Gathered.{joined}
-use Rattle.columns.proofs.Gathered.{Given, given-none, given-end, eight-within, rest-within, given-eight, given-rest}
+use Rattle.columns.proofs.Gathered.{ByEight, eight-none, eight-long, eight-within, eight-left, eight-more, eight-rest, eight-end, EightFit, eight-fit-passed}
 use Rattle.columns.proofs.Turned.{byteOf-both}
 use Rattle.columns.proofs.joining.join_bytes.Statement.{statement}
 use Rattle.columns.proofs.joining.join_bytes.Tie as tie
 
 abbrev Inv-loop : tie.InvT-loop
-Inv-loop rows width g keep eight others out₀ m w c whole step times b₀ a₀ out b a = (Given (joined (colBytes rows) keep eight others) width g (b * 8) out₀ out) × (b ≤ whole) × (a ≡ b * 8 * width)
+Inv-loop rows width g keep eight others out₀ m w c whole step times b₀ a₀ out b a = ByEight (joined (colBytes rows) keep eight others) rows width g b a out₀ out
 
 abbrev μ-loop : tie.MeasureT-loop
 μ-loop rows width g keep eight others out₀ m w c whole step times b₀ a₀ out b a = whole - b
 
-module _ (l : tie.At-loop Inv-loop μ-loop) where
-  abbrev start : tie.Start Inv-loop μ-loop
-  start = l .before .before .before .before .before
+abbrev start : tie.At-loop Inv-loop μ-loop → tie.Start Inv-loop μ-loop
+start l = l .before .before .before .before .before
 
-  abbrev m : ℕ
-  m = start .args .rows
+-- the rows are not many
+few : (l : tie.At-loop Inv-loop μ-loop) → start l .args .rows * start l .args .width ≤ 65536 * 65536
+few l = mul-le-both _ _ 65536 65536 (omega arith) (omega arith)
 
-  abbrev width : ℕ
-  width = start .args .width
+-- the lengths
+fits : (l : tie.At-loop Inv-loop μ-loop) → let a = start l .args in EightFit (a .rows) (a .width) (a .g) (length (a .eight .now)) (length (a .others .now)) (length (a .out .now))
+fits l = eight-fit-passed _ _ _ _ _ _ (start l .pre)
 
-  long : length (l .loop .out) ≡ m * width
-  long = l .loop .inv .0 .long ∙ start .pre .2
+joined-word-requires : tie.Need-joined-word-requires Inv-loop μ-loop
+joined-word-requires c κs = let f = fits (c .before) in (f .eight-long, f .others-long, omega arith, omega arith)
 
-  -- eight rows more stand in the rows, of which there are not many
-  next : l .loop .b < m / 8 → l .loop .a + 8 * width ≤ m * width
-  next h = eight-within m width (l .loop .b) (l .loop .a) h (l .loop .inv .2)
-
-  few : m * width ≤ 65536 * 65536
-  few = mul-le-both m width 65536 65536 (omega arith) (omega arith)
-
-  -- after the loop fewer than eight rows are left, to the end
-  left : m / 8 ≤ l .loop .b → (l .loop .a ≤ length (l .loop .out)) × (length (l .loop .out) - l .loop .a ≡ m % 8 * width)
-  left h = rest-within m width (l .loop .b) (l .loop .a) (length (l .loop .out)) (omega arith) (l .loop .inv .2) long
+joined-word-requires-2 : tie.Need-joined-word-requires-2 Inv-loop μ-loop
+joined-word-requires-2 c κs = let f = fits (c .before .before) in (f .eight-long, f .others-long, omega arith, omega arith)
 
 give-word-requires : tie.Need-give-word-requires Inv-loop μ-loop
 give-word-requires c κs =
-    let l = c .before .before .before in
-    let room = next l (c .before .before .loop-test .taken) in
-    (omega arith, simp (length-take, length-drop) (omega (arith, long l)), omega arith, omega arith)
+    let z = c .before .before .before .loop .inv in
+    let room = eight-within z (c .before .before .loop-test .taken) in
+    (omega arith, simp (length-take, length-drop) (omega (arith, eight-long z)), z .place, omega arith)
 
 give-word-requires-2 : tie.Need-give-word-requires-2 Inv-loop μ-loop
 give-word-requires-2 c κs =
-    let l = c .before .before .before .before in
-    let rest = left l (c .before .before .before .loop-test .left) in
-    (omega arith, simp (length-take, length-drop) (omega (arith, rest .1)), omega arith, omega arith)
+    let z = c .before .before .before .before .loop .inv in
+    let left = eight-left z (c .before .before .before .loop-test .left) in
+    (omega arith, simp (length-take, length-drop) (omega (arith, left .1)), z .place, omega arith)
 
 loop-again : tie.Need-loop-again Inv-loop μ-loop
 loop-again c =
     let t = c .before .before .before .before in
     let l = t .before .before in
-    let a = start l .args in (
-      given-eight (m l) (l .loop .inv .0) (omega arith) (l .loop .inv .2) (start l .pre .2) (t .before .loop-test .taken)
-          (byteOf-both (colBytes (a .rows)) (l .loop .b) (a .keep) (a .eight .now) (a .others .now) refl (omega arith) (l .before .eight-times .ensures) (t .joined-word .ensures))
-          (c .before .before .give-word .ensures),
-      omega arith,
-      omega (arith, add-mul (l .loop .b * 8) 8 (a .width)),
-    )
+    let a = start l .args in
+    eight-more (l .loop .inv) (t .before .loop-test .taken)
+    (byteOf-both (colBytes (a .rows)) (l .loop .b) (a .keep) (a .eight .now) (a .others .now) refl (omega arith) (l .before .eight-times .ensures) (t .joined-word .ensures))
+    (c .before .before .give-word .ensures)
 
 returns : tie.Need-returns Inv-loop μ-loop
 returns c =
     let t = c .before .before .before .before in
     let l = t .before .before .before in
     let a = start l .args in
-    given-rest (m l) (l .loop .inv .0) (omega arith) (l .loop .inv .2) (start l .pre .2) (omega arith)
+    eight-rest (l .loop .inv) (t .before .before .loop-test .left)
     (byteOf-both (colBytes (a .rows)) (l .loop .b) (a .keep) (a .eight .now) (a .others .now) refl (omega arith) (l .before .eight-times .ensures) (t .joined-word2 .ensures))
     (c .before .before .give-word2 .ensures)
-
-returns-2 : tie.Need-returns-2 Inv-loop μ-loop
-returns-2 c =
-    let l = c .before .before in
-    let all : l .loop .b * 8 ≡ m l = omega arith in
-    given-end (rw all at (l .loop .inv .0)) (omega arith) (start l .pre .2)
 
 pub join-bytes-spec : {M : Type 1} → statement M
 join-bytes-spec =
@@ -91,22 +74,22 @@ join-bytes-spec =
     (λ c. omega arith)
     (λ c. omega arith)
     (λ c κs. search needs)
-    (λ c. (given-none _ _ _ _, omega arith, omega arith))
-    (λ c. omega (arith, next (c .before) (c .loop-test .taken), few (c .before)))
-    (λ c κs. let s = start (c .before) in (s .pre .0, s .pre .1, omega arith, omega arith))
+    (λ c. let f = eight-fit-passed _ _ _ _ _ _ (c .before .before .before .before .pre) in eight-none _ _ _ _ _ (f .rows-long) (f .place))
+    (λ c. omega (arith, eight-within (c .before .loop .inv) (c .loop-test .taken), few (c .before)))
+    joined-word-requires
     (λ c. search needs)
     (λ c. search needs)
-    (λ c. let l = c .before .before in omega (arith, next l (c .before .loop-test .taken), long l))
+    (λ c. let z = c .before .before .loop .inv in omega (arith, eight-within z (c .before .loop-test .taken), eight-long z))
     give-word-requires
     (λ c. search needs)
     (λ c. search needs)
     loop-again
-    (λ c κs. let s = start (c .before .before) in (s .pre .0, s .pre .1, omega arith, omega arith))
-    (λ c. left (c .before .before .before) (c .before .before .loop-test .left) .0)
-    (λ c. left (c .before .before .before) (c .before .before .loop-test .left) .0)
+    joined-word-requires-2
+    (λ c. eight-left (c .before .before .before .loop .inv) (c .before .before .loop-test .left) .0)
+    (λ c. eight-left (c .before .before .before .loop .inv) (c .before .before .loop-test .left) .0)
     (λ c. omega arith)
     give-word-requires-2
-    (λ c. c .before .out2 .given .1 ∙ c .before .before .before .before .before .before .before .loop .inv .0 .long)
+    (λ c. c .before .out2 .given .1 ∙ c .before .before .before .before .before .before .before .loop .inv .so-far .long)
     returns
-    (λ c. c .before .before .loop .inv .0 .long)
-    returns-2)
+    (λ c. c .before .before .loop .inv .so-far .long)
+    (λ c. eight-end (c .before .before .loop .inv) (omega arith)))

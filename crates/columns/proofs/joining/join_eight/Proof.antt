@@ -1,16 +1,10 @@
--- `columns::joining::join_eight` meets its contract: the guard is the definition's test, and where it holds the lengths fit. Assumes nothing.
+-- `columns::joining::join_eight` meets its contract: the guard is the definition's test. Assumes nothing.
 use borrow.Author.Needs.{needs}
 use mathlib.Core.Path.{refl, sym, _∙_}
 use Rattle.basics.proofs.Choice.{pick-passed, pick-failed}
 use Rattle.columns.specs.Gathered.{joinedOver}
-use Rattle.columns.proofs.Gathered.{eight-fit-passed}
 use Rattle.columns.proofs.joining.join_eight.Statement.{statement}
 use Rattle.columns.proofs.joining.join_eight.Tie as tie
-
-join-bytes-requires : tie.Need-join-bytes-requires
-join-bytes-requires c κs =
-    let f = eight-fit-passed _ _ _ _ _ _ (sym (c .before .before .eight-fit .ensures) ∙ c .before .if1 .taken) in
-    (f .eight-long, f .others-long, f .rows-long, f .place)
 
 returns : tie.Need-returns
 unfolding joinedOver
@@ -24,4 +18,4 @@ returns-2 c = pick-failed _ (sym (c .before .eight-fit .ensures) ∙ c .if1 .lef
 
 pub join-eight-spec : {M : Type 1} → statement M
 join-eight-spec =
-    tie.close (tie.spec (λ c κs. search needs) join-bytes-requires (λ c. search needs) returns returns-2)
+    tie.close (tie.spec (λ c κs. search needs) (λ c κs. sym (c .before .before .eight-fit .ensures) ∙ c .before .if1 .taken) (λ c. search needs) returns returns-2)
