@@ -1,4 +1,6 @@
 // The buyer's calls (document 01, section 5): prepare, from columns and from seeds, and open. Lent buffers stand in the document's order.
+#![tactic(auto)]
+
 ghost use Rattle.buyer.specs.Prepare.{Prepared};
 ghost use Rattle.buyer.specs.Open.{Opened};
 ghost use Rattle.std.specs.Prelude.{true, false};

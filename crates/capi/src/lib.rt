@@ -1,4 +1,6 @@
 // The C library: thin exported functions over the public calls. A slice is a pointer and a length; a verdict is one number.
+#![tactic(auto)]
+
 ghost use Rattle.std.specs.Prelude.{◌≡◌, true, false, eqb, length};
 ghost use Rattle.basics.specs.Choice.{pick};
 ghost use Rattle.symmetric.specs.Sha.{sha256};

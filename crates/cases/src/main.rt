@@ -1,5 +1,7 @@
 // Runs the generated cases of peer/CASES.md: standard input has a row for each, and standard output gets a line for each.
 // The file stdin is peer/cases.txt, and stdout is what the independent second program prints.
+#![tactic(auto)]
+
 mod calls;
 mod inputs;
 mod lending;

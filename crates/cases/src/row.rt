@@ -5,7 +5,7 @@ use basics::{byte_or_zero, wide};
 use wire::Shape;
 
 // A byte that is changed before a call. `at` is 16 times the call plus the buffer, and 0 for none.
-#[derive(Drop)]
+#[derive(Clone, Copy)]
 pub(crate) struct Poke {
     pub at: usize,
     pub place: usize,
@@ -13,14 +13,14 @@ pub(crate) struct Poke {
 }
 
 // A length at which a call is lent a buffer in place of the usual one.
-#[derive(Drop)]
+#[derive(Clone, Copy)]
 pub(crate) struct Length {
     pub at: usize,
     pub length: usize,
 }
 
 // `calls` names those that are given the other shape: 1 for prepare, 2 for answer, 4 for open, added up.
-#[derive(Drop)]
+#[derive(Clone, Copy)]
 pub(crate) struct Case {
     pub shape: Shape,
     pub seeded: bool,

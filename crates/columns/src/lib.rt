@@ -1,4 +1,6 @@
 // Sets of columns: worked out from seeds, and turned into rows.
+#![tactic(auto)]
+
 mod adding;
 mod joining;
 mod rows;

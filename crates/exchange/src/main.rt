@@ -1,5 +1,7 @@
 // A private price lookup from beginning to end: a supplier lists prices, a buyer selects a grade in each product family, and each
 // receives what the layer lets it receive. Both parties stand in one program here.
+#![tactic(auto)]
+
 mod exchanging;
 mod printing;
 

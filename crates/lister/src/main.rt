@@ -1,4 +1,6 @@
 // Reads a message on standard input, at most one byte more than the longest, and prints its listing.
+#![tactic(auto)]
+
 use libc::{STDIN_FILENO, STDOUT_FILENO};
 
 fn main() {

@@ -1,4 +1,6 @@
 // The listing of a message (document 01, section 8), text and length by value.
+#![tactic(auto)]
+
 mod printing;
 mod writing;
 

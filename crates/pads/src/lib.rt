@@ -1,4 +1,6 @@
 // Pads over SHA-256, document 01, section 4. No other crate of the transfer layer hashes.
+#![tactic(auto)]
+
 ghost use Rattle.std.specs.Prelude.{◌≡◌, ◌++◌, ◌+◌, ◌≤◌, length, take, replicate};
 ghost use Rattle.basics.specs.Bytes.{be32};
 ghost use Rattle.pads.specs.Pads.{pad_bytes, pad_fit, pad_masked};

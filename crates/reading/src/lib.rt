@@ -1,4 +1,6 @@
 // The reader of messages (document 01, section 6): a cursor by value, one step, and the walk of a whole message.
+#![tactic(auto)]
+
 mod holding;
 mod walking;
 
@@ -8,20 +10,20 @@ pub use walking::{judge_step, start, step_at, step_from, walk};
 use wire::Shape;
 
 // The place of the next header, and the shape found so far.
-#[derive(Drop)]
+#[derive(Clone, Copy)]
 pub struct Cursor {
     pub place: usize,
     pub shape: Shape,
 }
 
-#[derive(Drop)]
+#[derive(Clone, Copy)]
 pub struct Refusal {
     pub code: u8,
     pub place: usize,
 }
 
 // What a step yields: a field with the cursor behind it, the end, or a refusal.
-#[derive(Drop)]
+#[derive(Clone, Copy)]
 pub enum Step {
     Shape(Shape, Cursor),
     Session {
@@ -40,7 +42,7 @@ pub enum Step {
 }
 
 // What the walk of a whole message found. On a refusal the fields hold what stands in their places, and 0 past the message's end.
-#[derive(Drop)]
+#[derive(Clone, Copy)]
 pub struct Walked {
     pub verdict: Verdict,
     pub shape: Shape,
@@ -49,7 +51,7 @@ pub struct Walked {
 }
 
 // A step together with where the next one begins.
-#[derive(Drop)]
+#[derive(Clone, Copy)]
 pub struct Advance {
     pub step: Step,
     pub place: usize,
@@ -57,7 +59,7 @@ pub struct Advance {
 }
 
 // The reader: the message, its place in it, and the shape that it found.
-#[derive(Drop)]
+#[derive(Clone, Copy)]
 pub struct Reader<'a> {
     pub message: &'a [u8],
     pub place: usize,

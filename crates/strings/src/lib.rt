@@ -1,4 +1,6 @@
 // The selected string of each row, document 01, section 5. A selection chooses no branch and no address: all strings of a row are gone over under masks.
+#![tactic(auto)]
+
 ghost use Rattle.std.specs.Prelude.{◌≡◌, ◌+◌, ◌*◌, ◌≤◌, length, get_or};
 ghost use Rattle.basics.specs.Bytes.{build};
 ghost use Rattle.strings.specs.Gathered.{RowFits};

@@ -1,4 +1,6 @@
 // The supplier's call (document 01, section 5): answer, from columns and from seeds, thin over one core. Lent buffers stand in the document's order.
+#![tactic(auto)]
+
 ghost use Rattle.std.specs.Prelude.{true, false};
 ghost use Rattle.supplier.specs.Answer.{Answered};
 

@@ -9,7 +9,7 @@ use basics::wide;
 use std::num::wrapping_add_u32;
 
 // A row of the state, and the four words of a quarter round.
-#[derive(Drop)]
+#[derive(Clone, Copy)]
 pub(crate) struct Row {
     a: u32,
     b: u32,
@@ -18,7 +18,7 @@ pub(crate) struct Row {
 }
 
 // Section 2.3: the state, a matrix of four rows.
-#[derive(Drop)]
+#[derive(Clone, Copy)]
 pub(crate) struct Grid {
     a: Row,
     b: Row,

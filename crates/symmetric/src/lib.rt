@@ -1,4 +1,6 @@
 // The two standards of document 01, section 4, and nothing else public: SHA-256 (FIPS 180-4) and the ChaCha20 block (RFC 8439).
+#![tactic(auto)]
+
 ghost use Rattle.std.specs.Prelude.{◌≡◌, length};
 ghost use Rattle.basics.specs.Verdicts.{Gives};
 ghost use Rattle.symmetric.specs.Sha.{sha256};

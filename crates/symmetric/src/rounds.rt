@@ -9,7 +9,7 @@ use crate::schedule::{extend, load};
 use std::num::wrapping_add_u32;
 
 // The eight working variables, and the eight words of the hash value.
-#[derive(Drop)]
+#[derive(Clone, Copy)]
 pub(crate) struct State {
     pub(crate) a: u32,
     pub(crate) b: u32,

@@ -1,5 +1,7 @@
 // Prints cases of the proved calls, one line each, a module for each subject. The file stdout holds what they must print,
 // from the documents and from programs that are not ours (tools/expected-vectors.py).
+#![tactic(auto)]
+
 mod message_cases;
 mod prepare_cases;
 mod show;

@@ -5,7 +5,7 @@ use wire::Shape;
 
 // The message that a shape, a tag and a block of zeros make, cut or lengthened to `total` bytes, with the byte at `at` set to `value`.
 // Byte 0 set to 1 changes nothing.
-#[derive(Drop)]
+#[derive(Clone, Copy)]
 struct Case {
     shape: Shape,
     tag: u8,

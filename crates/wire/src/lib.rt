@@ -1,4 +1,6 @@
 // Messages of document 01: the shape of a batch, the fields, and what operations ask of a received message.
+#![tactic(auto)]
+
 mod fields;
 mod judging;
 mod receiving;
@@ -13,7 +15,7 @@ pub use receiving::{check_padding, check_received, has_header, number};
 pub use writing::write_header;
 
 // Mode, rows m, places n and bytes l, at their widths on the wire.
-#[derive(Drop)]
+#[derive(Clone, Copy)]
 pub struct Shape {
     pub mode: u8,
     pub rows: u16,
