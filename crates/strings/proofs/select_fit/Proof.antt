@@ -9,37 +9,37 @@ use Rattle.strings.proofs.select_fit.Tie as tie
 pairs-few : (s : tie.Start) → s.args.m * s.args.n ≤ 65536 * 65536
 pairs-few s = mul_le_both s.args.m s.args.n 65536 65536 (omega arith) (omega arith)
 
-returns : tie.Need-returns
+returns : tie.Need-returns-then-strings-all
 returns c =
     simp (
-      le-leb _ _ c.before.before.before.before.if1.true,
-      le-leb _ _ c.before.before.before.if2.true,
-      le-leb _ _ c.before.before.if3.true,
-      eq-eqb _ _ c.before.if4.true,
-      eq-eqb _ _ c.if5.true,
+      le-leb _ _ c.if-n-ge1.true,
+      le-leb _ _ c.if-n-le-MOST_PLACES.true,
+      le-leb _ _ c.if-l-ge1.true,
+      eq-eqb _ _ c.if-selections-rows.true,
+      eq-eqb _ _ c.if-strings-all.true,
     )
 
-returns-2 : tie.Need-returns-2
+returns-2 : tie.Need-returns-else-strings-all
 returns-2 c =
     simp (
-      le-leb _ _ c.before.before.before.before.if1.true,
-      le-leb _ _ c.before.before.before.if2.true,
-      le-leb _ _ c.before.before.if3.true,
-      eq-eqb _ _ c.before.if4.true,
-      ne_eqb _ _ c.if5.false,
+      le-leb _ _ c.if-n-ge1.true,
+      le-leb _ _ c.if-n-le-MOST_PLACES.true,
+      le-leb _ _ c.if-l-ge1.true,
+      eq-eqb _ _ c.if-selections-rows.true,
+      ne_eqb _ _ c.if-strings-all.false,
     )
 
-returns-3 : tie.Need-returns-3
-returns-3 c = simp (le-leb _ _ c.before.before.before.if1.true, le-leb _ _ c.before.before.if2.true, le-leb _ _ c.before.if3.true, ne_eqb _ _ c.if4.false)
+returns-3 : tie.Need-returns-else-selections-rows
+returns-3 c = simp (le-leb _ _ c.if-n-ge1.true, le-leb _ _ c.if-n-le-MOST_PLACES.true, le-leb _ _ c.if-l-ge1.true, ne_eqb _ _ c.if-selections-rows.false)
 
-returns-4 : tie.Need-returns-4
-returns-4 c = simp (le-leb _ _ c.before.before.if1.true, le-leb _ _ c.before.if2.true, lt-leb _ _ c.if3.false)
+returns-4 : tie.Need-returns-else-l-ge1
+returns-4 c = simp (le-leb _ _ c.if-n-ge1.true, le-leb _ _ c.if-n-le-MOST_PLACES.true, lt-leb _ _ c.if-l-ge1.false)
 
-returns-5 : tie.Need-returns-5
-returns-5 c = simp (le-leb _ _ c.before.if1.true, lt-leb _ _ c.if2.false)
+returns-5 : tie.Need-returns-else-n-le-MOST_PLACES
+returns-5 c = simp (le-leb _ _ c.if-n-ge1.true, lt-leb _ _ c.if-n-le-MOST_PLACES.false)
 
-pub select-fit-spec : {M : Type 1} → statement M
-select-fit-spec =
+pub select_fit_spec : {M : Type 1} → statement M
+select_fit_spec =
     tie.close
     (tie.spec
     (λ c. omega (arith, pairs-few c))
@@ -50,4 +50,4 @@ select-fit-spec =
     returns-3
     returns-4
     returns-5
-    (λ c. simp (lt-leb _ _ c.if1.false)))
+    (λ c. simp (lt-leb _ _ c.if-n-ge1.false)))

@@ -7,9 +7,9 @@ use Rattle.symmetric.proofs.block_verdict.Tie as tie
 
 returns : tie.Need-returns
 unfolding block_verdict
-returns c = let a = c.before.before.before.args in
-    c.refuse-unless3.ensures
-    ∙ ap (unless (eqb a.key 32) 6 1) (c.before.refuse-unless2.ensures ∙ ap (unless (eqb a.nonce 12) 6 2) c.before.before.refuse-unless.ensures)
+returns c = let a = c.args in
+    c.refuse_unless.ensures
+    ∙ ap (unless (eqb a.key 32) 6 1) (c.refuse_unless-next.ensures ∙ ap (unless (eqb a.nonce 12) 6 2) c.refuse_unless-last.ensures)
 
-pub block-verdict-spec : {M : Type 1} → statement M
-block-verdict-spec = tie.close (tie.spec (λ c κs. search rules) (λ c κs. search rules) (λ c κs. search rules) returns)
+pub block_verdict_spec : {M : Type 1} → statement M
+block_verdict_spec = tie.close (tie.spec (λ c κs. search rules) (λ c κs. search rules) (λ c κs. search rules) returns)

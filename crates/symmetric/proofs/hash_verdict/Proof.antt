@@ -7,7 +7,7 @@ use Rattle.symmetric.proofs.hash_verdict.Tie as tie
 
 returns : tie.Need-returns
 unfolding hash_verdict
-returns c = c.refuse-unless2.ensures ∙ ap (unless (leb c.before.before.args.input 65535) 6 1) c.before.refuse-unless.ensures
+returns c = c.refuse_unless.ensures ∙ ap (unless (leb c.args.input 65535) 6 1) c.refuse_unless-next.ensures
 
-pub hash-verdict-spec : {M : Type 1} → statement M
-hash-verdict-spec = tie.close (tie.spec (λ c κs. search rules) (λ c κs. search rules) returns)
+pub hash_verdict_spec : {M : Type 1} → statement M
+hash_verdict_spec = tie.close (tie.spec (λ c κs. search rules) (λ c κs. search rules) returns)

@@ -9,51 +9,51 @@ use Rattle.basics.proofs.Fill.{Filled, filled_none, filled_here, filled_rest, fi
 use Rattle.strings.proofs.folding.fold_half.Statement.{statement}
 use Rattle.strings.proofs.folding.fold_half.Tie as tie
 
-abbrev invariant-loop : tie.invariant-loop
+abbrev invariant-loop : tie.invariant-loop-p
 invariant-loop at len work₀ p₀ work p = (Filled (λ i. bit_xor (get_or work₀ i 0) (get_or work₀ (at + i) 0)) p work₀ work) × (p ≤ len)
 
-abbrev decreases-loop : tie.decreases-loop
+abbrev decreases-loop : tie.decreases-loop-p
 decreases-loop at len work₀ p₀ work p = len - p
 
-loop-again : tie.Need-loop-preserved invariant-loop decreases-loop
+loop-again : tie.Need-loop-p-preserved invariant-loop decreases-loop
 loop-again c =
     let l = c.before.before.before in
     let s = l.before in
     let a = s.args in
-    let h : l.loop.p < a.len = c.before.before.loop-test.true in
-    let split : l.loop.p + (a.at + l.loop.p - l.loop.p) ≡ a.at + l.loop.p = omega arith in (
-      filled_more l.loop.invariant.0 (omega (arith, s.requires.0, s.requires.1))
-          (ap₂ bit_xor (filled_here l.loop.invariant.0)
-          (ap (λ (x : ℕ). get_or l.loop.work x 0) (sym split) ∙ filled_rest l.loop.invariant.0 (a.at + l.loop.p - l.loop.p) ∙ ap (λ (x : ℕ). get_or a.work.now x 0) split)),
+    let h : l.loop-p.p < a.len = c.loop-p-test.true in
+    let split : l.loop-p.p + (a.at + l.loop-p.p - l.loop-p.p) ≡ a.at + l.loop-p.p = omega arith in (
+      filled_more l.loop-p.invariant.0 (omega (arith, s.requires.0, s.requires.1))
+          (ap₂ bit_xor (filled_here l.loop-p.invariant.0)
+          (ap (λ (x : ℕ). get_or l.loop-p.work x 0) (sym split) ∙ filled_rest l.loop-p.invariant.0 (a.at + l.loop-p.p - l.loop-p.p) ∙ ap (λ (x : ℕ). get_or a.work.now x 0) split)),
       omega arith,
     )
 
 returns : tie.Need-returns invariant-loop decreases-loop
 returns c =
     let l = c.before in
-    let a = l.before.args in
-    let z = l.loop.invariant.0 in
-    let all : l.loop.p ≡ a.len = omega (arith, l.loop.invariant.1, c.loop-test.false) in
+    let a = l.args in
+    let z = l.loop-p.invariant.0 in
+    let all : l.loop-p.p ≡ a.len = omega (arith, l.loop-p.invariant.1, c.loop-p-test.false) in
     record {
       first = λ p h. filled_new z p (omega arith);
       rest = λ p h.
-          let split : l.loop.p + (p - l.loop.p) ≡ p = omega arith in
-          ap (λ (x : ℕ). get_or l.loop.work x 0) (sym split) ∙ filled_rest z (p - l.loop.p) ∙ ap (λ (x : ℕ). get_or a.work.now x 0) split;
+          let split : l.loop-p.p + (p - l.loop-p.p) ≡ p = omega arith in
+          ap (λ (x : ℕ). get_or l.loop-p.work x 0) (sym split) ∙ filled_rest z (p - l.loop-p.p) ∙ ap (λ (x : ℕ). get_or a.work.now x 0) split;
     }
 
-pub fold-half-spec : {M : Type 1} → statement M
-fold-half-spec =
+pub fold_half_spec : {M : Type 1} → statement M
+fold_half_spec =
     tie.close
     (tie.spec
     invariant-loop
     decreases-loop
     (λ c. (filled_none _ _, omega arith))
-    (λ c. let l = c.before.before in omega (arith, l.loop.invariant.0.long, l.before.requires.0, l.before.requires.1, c.before.loop-test.true))
-    (λ c. let l = c.before.before in omega (arith, l.loop.invariant.0.long, l.before.requires.2, l.before.requires.1, c.before.loop-test.true))
-    (λ c. let l = c.before.before.before in omega (arith, l.loop.invariant.0.long, l.before.requires.1, c.before.before.loop-test.true))
-    (λ c. let l = c.before.before.before in omega (arith, l.loop.invariant.0.long, l.before.requires.0, l.before.requires.1, c.before.before.loop-test.true))
+    (λ c. let l = c.before.before in omega (arith, l.loop-p.invariant.0.long, l.requires.0, l.requires.1, c.loop-p-test.true))
+    (λ c. let l = c.before.before in omega (arith, l.loop-p.invariant.0.long, l.requires.2, l.requires.1, c.loop-p-test.true))
+    (λ c. let l = c.before.before.before in omega (arith, l.loop-p.invariant.0.long, l.requires.1, c.loop-p-test.true))
+    (λ c. let l = c.before.before.before in omega (arith, l.loop-p.invariant.0.long, l.requires.0, l.requires.1, c.loop-p-test.true))
     (λ c. search rules)
     (λ c. search rules)
     loop-again
-    (λ c. c.before.loop.invariant.0.long)
+    (λ c. c.loop-p.invariant.0.long)
     returns)

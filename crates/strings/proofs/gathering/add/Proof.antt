@@ -9,24 +9,24 @@ use Rattle.strings.proofs.Gathered.{added_at, added_is}
 use Rattle.strings.proofs.gathering.add.Statement.{statement}
 use Rattle.strings.proofs.gathering.add.Tie as tie
 
-abbrev invariant-loop : tie.invariant-loop
+abbrev invariant-loop : tie.invariant-loop-p
 invariant-loop place other places src more work₀ p₀ work p = Filled (added_at place other places src more work₀) p work₀ work
 
-abbrev decreases-loop : tie.decreases-loop
+abbrev decreases-loop : tie.decreases-loop-p
 decreases-loop place other places src more work₀ p₀ work p = length work₀ - p
 
-loop-again : tie.Need-loop-preserved invariant-loop decreases-loop
+loop-again : tie.Need-loop-p-preserved invariant-loop decreases-loop
 loop-again c =
     let l = c.before.before.before.before.before.before.before.before in
-    let a = l.before.before.before.before.before.args in
-    filled_more l.loop.invariant (search rules)
-    (ap₂ bit_xor (ap₂ (λ (x y : ℕ). bit_xor x (bit_and (get_or a.src.now l.loop.p 0) y)) (filled_here l.loop.invariant) c.before.before.before.before.equal.ensures)
-    (ap (bit_and (get_or a.more.now l.loop.p 0)) c.before.equal2.ensures))
+    let a = l.args in
+    filled_more l.loop-p.invariant (search rules)
+    (ap₂ bit_xor (ap₂ (λ (x y : ℕ). bit_xor x (bit_and (get_or a.src.now l.loop-p.p 0) y)) (filled_here l.loop-p.invariant) c.equal.ensures)
+    (ap (bit_and (get_or a.more.now l.loop-p.p 0)) c.equal-in-loop-p.ensures))
 
 returns : tie.Need-returns invariant-loop decreases-loop
 returns c =
-    let a = c.before.before.before.before.before.before.args in
-    filled_end c.before.loop.invariant refl (search rules) ∙ added_is a.place a.other a.places.now a.src.now a.more.now a.work.now
+    let a = c.args in
+    filled_end c.loop-p.invariant refl (search rules) ∙ added_is a.place a.other a.places.now a.src.now a.more.now a.work.now
 
 pub add_spec : {M : Type 1} → statement M
 add_spec =
@@ -46,5 +46,5 @@ add_spec =
     (λ c. search rules)
     (λ c. search rules)
     loop-again
-    (λ c. c.before.loop.invariant.long)
+    (λ c. c.loop-p.invariant.long)
     returns)

@@ -5,7 +5,7 @@ use Rattle.strings.proofs.gathering.equal.Statement.{statement}
 use Rattle.strings.proofs.gathering.equal.Tie as tie
 
 returns : tie.Need-returns
-returns c = equal_carry c.before.args.a c.before.args.b c.wide.result c.wide.ensures.0 c.wide.ensures.1
+returns c = equal_carry c.args.a c.args.b c.wide.result c.wide.ensures.0 c.wide.ensures.1
 
-pub equal-spec : {M : Type 1} → statement M
-equal-spec = tie.close (tie.spec (λ c κs. search rules) (λ c. search rules) (λ c. search rules) (λ c. search rules) (λ c. search rules) returns)
+pub equal_spec : {M : Type 1} → statement M
+equal_spec = tie.close (tie.spec (λ c κs. search rules) (λ c. search rules) (λ c. search rules) (λ c. search rules) (λ c. search rules) returns)

@@ -9,22 +9,22 @@ use Rattle.strings.specs.Gathered.{equal_mask}
 use Rattle.strings.proofs.gathering.hold.Statement.{statement}
 use Rattle.strings.proofs.gathering.hold.Tie as tie
 
-abbrev invariant-loop : tie.invariant-loop
+abbrev invariant-loop : tie.invariant-loop-p
 invariant-loop place places src work₀ p₀ work p = Filled (λ i. bit_and (get_or src i 0) (equal_mask (get_or places i 0) place)) p work₀ work
 
-abbrev decreases-loop : tie.decreases-loop
+abbrev decreases-loop : tie.decreases-loop-p
 decreases-loop place places src work₀ p₀ work p = length work₀ - p
 
-loop-again : tie.Need-loop-preserved invariant-loop decreases-loop
+loop-again : tie.Need-loop-p-preserved invariant-loop decreases-loop
 loop-again c =
     let l = c.before.before.before.before in
-    filled_more l.loop.invariant (search rules) (ap (bit_and (get_or l.before.before.before.before.args.src.now l.loop.p 0)) c.equal.ensures)
+    filled_more l.loop-p.invariant (search rules) (ap (bit_and (get_or l.args.src.now l.loop-p.p 0)) c.equal.ensures)
 
 returns : tie.Need-returns invariant-loop decreases-loop
-returns c = filled_end c.before.loop.invariant refl (search rules)
+returns c = filled_end c.loop-p.invariant refl (search rules)
 
-pub hold-spec : {M : Type 1} → statement M
-hold-spec =
+pub hold_spec : {M : Type 1} → statement M
+hold_spec =
     tie.close
     (tie.spec
     invariant-loop
@@ -37,5 +37,5 @@ hold-spec =
     (λ c. search rules)
     (λ c. search rules)
     loop-again
-    (λ c. c.before.loop.invariant.long)
+    (λ c. c.loop-p.invariant.long)
     returns)

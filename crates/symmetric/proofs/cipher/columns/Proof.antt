@@ -6,7 +6,7 @@ use Rattle.symmetric.proofs.cipher.columns.Tie as tie
 
 returns : tie.Need-returns
 unfolding column_round
-returns c = rw (← c.before.before.before.quarter-round.ensures, ← c.before.before.quarter-round2.ensures, ← c.before.quarter-round3.ensures, ← c.quarter-round4.ensures)
+returns c = rw (← c.quarter_round-p.ensures, ← c.quarter_round-q.ensures, ← c.quarter_round-u.ensures, ← c.quarter_round-v.ensures)
 
 pub columns_spec : {M : Type 1} → statement M
 columns_spec =

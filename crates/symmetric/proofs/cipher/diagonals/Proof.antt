@@ -6,9 +6,9 @@ use Rattle.symmetric.proofs.cipher.diagonals.Tie as tie
 
 returns : tie.Need-returns
 unfolding diagonal_round
-returns c = rw (← c.before.before.before.quarter-round.ensures, ← c.before.before.quarter-round2.ensures, ← c.before.quarter-round3.ensures, ← c.quarter-round4.ensures)
+returns c = rw (← c.quarter_round-p.ensures, ← c.quarter_round-q.ensures, ← c.quarter_round-u.ensures, ← c.quarter_round-v.ensures)
 
-pub diagonals-spec : {M : Type 1} → statement M
-diagonals-spec =
+pub diagonals_spec : {M : Type 1} → statement M
+diagonals_spec =
     tie.close
     (tie.spec (λ c κs. search rules) (λ c κs. search rules) (λ c κs. search rules) (λ c κs. search rules) returns)

@@ -6,7 +6,7 @@ use Rattle.symmetric.proofs.cipher.double_round.Tie as tie
 
 returns : tie.Need-returns
 unfolding inner_block
-returns c = c.diagonals.ensures ∙ ap diagonal_round c.before.columns.ensures
+returns c = c.diagonals.ensures ∙ ap diagonal_round c.columns.ensures
 
-pub double-round-spec : {M : Type 1} → statement M
-double-round-spec = tie.close (tie.spec (λ c κs. search rules) (λ c κs. search rules) returns)
+pub double_round_spec : {M : Type 1} → statement M
+double_round_spec = tie.close (tie.spec (λ c κs. search rules) (λ c κs. search rules) returns)

@@ -7,9 +7,9 @@ use Rattle.symmetric.proofs.cipher.grid_sum.Tie as tie
 
 returns : tie.Need-returns
 unfolding sums build from
-returns c = ap₂ ◌++◌ (ap₂ ◌++◌ (ap₂ ◌++◌ c.before.before.before.row-sum.ensures c.before.before.row-sum2.ensures) c.before.row-sum3.ensures) c.row-sum4.ensures
+returns c = ap₂ ◌++◌ (ap₂ ◌++◌ (ap₂ ◌++◌ c.row_sum-a.ensures c.row_sum-b.ensures) c.row_sum-c.ensures) c.row_sum-d.ensures
 
-pub grid-sum-spec : {M : Type 1} → statement M
-grid-sum-spec =
+pub grid_sum_spec : {M : Type 1} → statement M
+grid_sum_spec =
     tie.close
     (tie.spec (λ c κs. search rules) (λ c κs. search rules) (λ c κs. search rules) (λ c κs. search rules) returns)

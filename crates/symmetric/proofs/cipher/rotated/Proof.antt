@@ -8,5 +8,5 @@ returns : tie.Need-returns
 unfolding rotl
 returns c = refl
 
-pub rotated-spec : {M : Type 1} → statement M
-rotated-spec = tie.close (tie.spec (λ c. search rules) (λ c. search rules) (λ c. search rules) returns)
+pub rotated_spec : {M : Type 1} → statement M
+rotated_spec = tie.close (tie.spec (λ c. search rules) (λ c. search rules) (λ c. search rules) returns)

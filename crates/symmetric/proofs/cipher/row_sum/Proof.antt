@@ -9,9 +9,9 @@ use Rattle.symmetric.proofs.cipher.row_sum.Tie as tie
 returns : tie.Need-returns
 unfolding sums build from
 returns c = let c2 = c.before.before in
-    four c2.before.wrapping-add-u32.ensures c2.wrapping-add-u322.ensures c.before.wrapping-add-u323.ensures c.wrapping-add-u324.ensures
+    four c2.wrapping_add_u32.ensures c2.wrapping_add_u32-2.ensures c.wrapping_add_u32-3.ensures c.wrapping_add_u32-4.ensures
 
-pub row-sum-spec : {M : Type 1} → statement M
-row-sum-spec =
+pub row_sum_spec : {M : Type 1} → statement M
+row_sum_spec =
     tie.close
     (tie.spec (λ c κs. search rules) (λ c κs. search rules) (λ c κs. search rules) (λ c κs. search rules) returns)

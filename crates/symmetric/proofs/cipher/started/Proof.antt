@@ -8,11 +8,11 @@ use Rattle.symmetric.proofs.cipher.started.Tie as tie
 returns : tie.Need-returns
 unfolding start
 returns c = let c2 = c.before.before in
-    ap₂ ◌++◌ (ap₂ ◌++◌ (ap₂ ◌++◌ (four refl refl refl refl) c2.before.before.row_at.ensures) c2.before.row-at2.ensures)
-    (four refl c2.word_at.ensures c.before.word-at2.ensures c.word-at3.ensures)
+    ap₂ ◌++◌ (ap₂ ◌++◌ (ap₂ ◌++◌ (four refl refl refl refl) c2.row_at-low.ensures) c2.row_at-high.ensures)
+    (four refl c2.word_at-first.ensures c.word_at-second.ensures c.word_at-third.ensures)
 
-pub started-spec : {M : Type 1} → statement M
-started-spec =
+pub started_spec : {M : Type 1} → statement M
+started_spec =
     tie.close
     (tie.spec (λ c κs. search rules) (λ c κs. search rules) (λ c κs. search rules) (λ c κs. search rules) (λ c κs. search rules)
     returns)

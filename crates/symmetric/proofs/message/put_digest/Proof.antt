@@ -7,9 +7,9 @@ use Rattle.symmetric.proofs.message.put_digest.Tie as tie
 
 returns : tie.Need-returns
 unfolding sha256
-returns c = c.before.before.put-big.ensures ∙ ap (serial big_endian) c.before.before.before.before.before.finished.ensures
+returns c = c.put_big.ensures ∙ ap (serial big_endian) c.finished-s.ensures
 
-pub put-digest-spec : {M : Type 1} → statement M
-put-digest-spec =
+pub put_digest_spec : {M : Type 1} → statement M
+put_digest_spec =
     tie.close
     (tie.spec (λ c κs. search rules) (λ c. search rules) (λ c κs. search rules) (λ c. search rules) returns)

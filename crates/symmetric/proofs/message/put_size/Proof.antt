@@ -11,8 +11,8 @@ returns c = let b = c.args.block.now in
     let e = sized_is b _ c.requires.1 refl in
     (ap length e ∙ length_sized b (8 * c.args.n) c.requires.1, e)
 
-pub put-size-spec : {M : Type 1} → statement M
-put-size-spec =
+pub put_size_spec : {M : Type 1} → statement M
+put_size_spec =
     tie.close
     (tie.spec (λ c. search rules) (λ c. search rules) (λ c. search rules) (λ c. search rules) (λ c. search rules)
     (λ c. search rules) (λ c. search rules) (λ c. search rules) (λ c. search rules) (λ c. search rules) (λ c. search rules)

@@ -8,5 +8,5 @@ returns : tie.Need-returns
 unfolding big_endian
 returns c = refl
 
-pub big-spec : {M : Type 1} → statement M
-big-spec = tie.close (tie.spec (λ c. search rules) (λ c. search rules) (λ c. search rules) (λ c. search rules) returns)
+pub big_spec : {M : Type 1} → statement M
+big_spec = tie.close (tie.spec (λ c. search rules) (λ c. search rules) (λ c. search rules) (λ c. search rules) returns)

@@ -8,5 +8,5 @@ returns : tie.Need-returns
 unfolding little_endian
 returns c = refl
 
-pub little-spec : {M : Type 1} → statement M
-little-spec = tie.close (tie.spec (λ c. search rules) (λ c. search rules) (λ c. search rules) (λ c. search rules) returns)
+pub little_spec : {M : Type 1} → statement M
+little_spec = tie.close (tie.spec (λ c. search rules) (λ c. search rules) (λ c. search rules) (λ c. search rules) returns)

@@ -6,26 +6,26 @@ use Rattle.symmetric.proofs.Words.{big_endian_four, serial_more, serial_end}
 use Rattle.symmetric.proofs.order.put_big.Statement.{statement}
 use Rattle.symmetric.proofs.order.put_big.Tie as tie
 
-abbrev invariant-loop : tie.invariant-loop
+abbrev invariant-loop : tie.invariant-loop-i
 invariant-loop words out₀ i₀ out i = (i ≤ length words) × Filled (λ p. get_or (serial big_endian words) p 0) (i * 4) out₀ out
 
-abbrev decreases-loop : tie.decreases-loop
+abbrev decreases-loop : tie.decreases-loop-i
 decreases-loop words out₀ i₀ out i = length words - i
 
-loop-holds : tie.Need-loop-init invariant-loop decreases-loop
+loop-holds : tie.Need-loop-i-init invariant-loop decreases-loop
 loop-holds c = (omega arith, filled_none _ _)
 
-loop-again : tie.Need-loop-preserved invariant-loop decreases-loop
+loop-again : tie.Need-loop-i-preserved invariant-loop decreases-loop
 loop-again c = let c5 = c.before.before.before.before.before in
-    let l = c5.before.before.before.loop in
-    (omega arith, serial_more big_endian big_endian_four _ l.i l.invariant.1 (search rules) (search rules) c.before.before.copy.ensures c5.big.ensures)
+    let l = c5.loop-i in
+    (omega arith, serial_more big_endian big_endian_four _ l.i l.invariant.1 (search rules) (search rules) c.copy.ensures c5.big-b.ensures)
 
 returns : tie.Need-returns invariant-loop decreases-loop
-returns c = let l = c.before.loop in
+returns c = let l = c.loop-i in
     serial_end big_endian big_endian_four _ l.i l.invariant.1 (search rules) (search rules)
 
-pub put-big-spec : {M : Type 1} → statement M
-put-big-spec =
+pub put_big_spec : {M : Type 1} → statement M
+put_big_spec =
     tie.close
     (tie.spec invariant-loop decreases-loop loop-holds (λ c. search rules) (λ c. search rules) (λ c κs. search rules) (λ c. search rules)
     (λ c. search rules) (λ c. search rules) (λ c. search rules) (λ c. search rules) (λ c. search rules) (λ c κs. search rules)

@@ -6,5 +6,5 @@ use Rattle.symmetric.proofs.rounds.big_sigma1.Tie as tie
 returns : tie.Need-returns
 returns c = refl
 
-pub big-sigma1-spec : {M : Type 1} → statement M
-big-sigma1-spec = tie.close (tie.spec returns)
+pub big_sigma1_spec : {M : Type 1} → statement M
+big_sigma1_spec = tie.close (tie.spec returns)

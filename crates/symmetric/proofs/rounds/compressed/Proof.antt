@@ -8,7 +8,7 @@ use Rattle.symmetric.proofs.rounds.compressed.Tie as tie
 
 returns : tie.Need-returns
 unfolding compress
-returns c = c.added.ensures ∙ ap (sums 8 (words c.before.before.before.args.s)) c.before.stir.ensures
+returns c = c.added.ensures ∙ ap (sums 8 (words c.args.s)) c.stir-v.ensures
 
-pub compressed-spec : {M : Type 1} → statement M
-compressed-spec = tie.close (tie.spec (λ c κs. search rules) (λ c κs. search rules) returns)
+pub compressed_spec : {M : Type 1} → statement M
+compressed_spec = tie.close (tie.spec (λ c κs. search rules) (λ c κs. search rules) returns)

@@ -9,12 +9,12 @@ use Rattle.symmetric.proofs.rounds.step.Tie as tie
 
 returns : tie.Need-returns
 unfolding round
-returns c = let a = c.before.before.before.before.before.before.args in
-    let k = ap (λ (l : List ℕ). temp1 (words a.s) (get_or l a.t 0) (get_or a.w.now a.t 0)) c.before.before.before.before.before.before.requires.0 in
-    let t1 = c.before.before.before.first-temp.ensures ∙ k in
-    let t2 = c.before.before.second-temp.ensures in
-    eight (c.before.wrapping-add-u32.ensures ∙ ap₂ add t1 t2) refl refl refl
-    (c.wrapping-add-u322.ensures ∙ ap (add _) t1) refl refl refl
+returns c = let a = c.args in
+    let k = ap (λ (l : List ℕ). temp1 (words a.s) (get_or l a.t 0) (get_or a.w.now a.t 0)) c.requires.0 in
+    let t1 = c.first_temp-t1.ensures ∙ k in
+    let t2 = c.second_temp-t2.ensures in
+    eight (c.wrapping_add_u32.ensures ∙ ap₂ add t1 t2) refl refl refl
+    (c.wrapping_add_u32-2.ensures ∙ ap (add _) t1) refl refl refl
 
 pub step_spec : {M : Type 1} → statement M
 step_spec =

@@ -9,22 +9,22 @@ use borrow.Author.Rules.{rules}
 use Rattle.wire.proofs.judging.block_length.Statement.{statement}
 use Rattle.wire.proofs.judging.block_length.Tie as tie
 
-mul-result : tie.Need-overflow-mul-result
-mul-result c = omega (arith, mul_le_both c.before.columns_of.result c.column-bytes.result 256 8192 c.before.columns_of.ensures.high (omega arith))
+mul-result : tie.Need-overflow_mul-result
+mul-result c = omega (arith, mul_le_both c.columns_of.result c.column_bytes.result 256 8192 c.columns_of.ensures.high (omega arith))
 
-returns : tie.Need-returns
+returns : tie.Need-returns-then-tag-eq-TAG_COLUMNS
 unfolding block_length
 returns c = (
-  simp (eq-eqb _ _ c.before.before.if1.true) (ap₂ (λ (x y : ℕ). x * y) c.before.columns_of.ensures.is c.column-bytes.ensures),
-  omega (arith, mul_le_both c.before.columns_of.result c.column-bytes.result 256 8192 c.before.columns_of.ensures.high (omega arith)),
+  simp (eq-eqb _ _ c.if-tag-eq-TAG_COLUMNS.true) (ap₂ (λ (x y : ℕ). x * y) c.columns_of.ensures.is c.column_bytes.ensures),
+  omega (arith, mul_le_both c.columns_of.result c.column_bytes.result 256 8192 c.columns_of.ensures.high (omega arith)),
 )
 
-returns-2 : tie.Need-returns-2
+returns-2 : tie.Need-returns-else-tag-eq-TAG_COLUMNS
 unfolding block_length
-returns-2 c = (simp (ne_eqb _ _ c.before.if1.false) c.volume.ensures.0, c.volume.ensures.1)
+returns-2 c = (simp (ne_eqb _ _ c.if-tag-eq-TAG_COLUMNS.false) c.volume.ensures.0, c.volume.ensures.1)
 
-pub block-length-spec : {M : Type 1} → statement M
-block-length-spec =
+pub block_length_spec : {M : Type 1} → statement M
+block_length_spec =
     tie.close
     (tie.spec
     (λ c κs. search rules)

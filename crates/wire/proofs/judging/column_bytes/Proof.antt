@@ -7,5 +7,5 @@ use Rattle.wire.proofs.judging.column_bytes.Tie as tie
 returns : tie.Need-returns
 returns c = refl
 
-pub column-bytes-spec : {M : Type 1} → statement M
-column-bytes-spec = tie.close (tie.spec (λ c. search rules) returns)
+pub column_bytes_spec : {M : Type 1} → statement M
+column_bytes_spec = tie.close (tie.spec (λ c. search rules) returns)

@@ -6,16 +6,16 @@ use Rattle.wire.specs.Shapes.{k_of}
 use Rattle.wire.proofs.judging.columns_of.Statement.{statement}
 use Rattle.wire.proofs.judging.columns_of.Tie as tie
 
-returns : tie.Need-returns
+returns : tie.Need-returns-then-mode-eq-CHOICES
 unfolding k_of
-returns c = record { is = simp (eq-eqb _ _ c.if1.true); low = omega arith; high = omega arith; whole = refl }
+returns c = record { is = simp (eq-eqb _ _ c.if-mode-eq-CHOICES.true); low = omega arith; high = omega arith; whole = refl }
 
-returns-2 : tie.Need-returns-2
+returns-2 : tie.Need-returns-else-mode-eq-CHOICES
 unfolding k_of
-returns-2 c = record { is = simp (ne_eqb _ _ c.if1.false); low = omega arith; high = omega arith; whole = refl }
+returns-2 c = record { is = simp (ne_eqb _ _ c.if-mode-eq-CHOICES.false); low = omega arith; high = omega arith; whole = refl }
 
-pub columns-of-spec : {M : Type 1} → statement M
-columns-of-spec =
+pub columns_of_spec : {M : Type 1} → statement M
+columns_of_spec =
     tie.close
     (tie.spec
     returns

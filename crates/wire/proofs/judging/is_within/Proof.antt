@@ -3,14 +3,14 @@ use borrow.Author.Tests.{le-leb, lt-leb}
 use Rattle.wire.proofs.judging.is_within.Statement.{statement}
 use Rattle.wire.proofs.judging.is_within.Tie as tie
 
-returns : tie.Need-returns
-returns c = simp (le-leb c.before.args.low c.before.args.x c.if1.true)
+returns : tie.Need-returns-then-low-x
+returns c = simp (le-leb c.args.low c.args.x c.if-low-x.true)
 
-returns-2 : tie.Need-returns-2
-returns-2 c = simp (lt-leb c.before.args.low c.before.args.x c.if1.false)
+returns-2 : tie.Need-returns-else-low-x
+returns-2 c = simp (lt-leb c.args.low c.args.x c.if-low-x.false)
 
-pub is-within-spec : {M : Type 1} → statement M
-is-within-spec =
+pub is_within_spec : {M : Type 1} → statement M
+is_within_spec =
     tie.close
     (tie.spec
     returns

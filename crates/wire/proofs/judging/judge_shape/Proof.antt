@@ -8,21 +8,21 @@ returns : tie.Need-returns
 unfolding shape_verdict
 returns c =
     rw (
-      c.refuse-unless5.ensures,
-      c.before.is-within4.ensures,
-      c.before.before.before.refuse-unless4.ensures,
-      c.before.before.before.before.is-within3.ensures,
-      c.before.before.before.before.before.before.refuse-unless3.ensures,
-      c.before.before.before.before.before.before.before.is-within2.ensures,
-      c.before.before.before.before.before.before.before.before.most-places.ensures,
-      c.before.before.before.before.before.before.before.before.before.before.refuse-unless2.ensures,
-      c.before.before.before.before.before.before.before.before.before.before.before.is_Within.ensures,
-      c.before.before.before.before.before.before.before.before.before.before.before.before.before.refuse-unless.ensures,
-      c.before.before.before.before.before.before.before.before.before.before.before.before.before.before.volume.ensures.0,
+      c.refuse_unless.ensures,
+      c.is_within-4.ensures,
+      c.refuse_unless-v2.ensures,
+      c.is_within-3.ensures,
+      c.refuse_unless-v3.ensures,
+      c.is_within-2.ensures,
+      c.most_places.ensures,
+      c.refuse_unless-v4.ensures,
+      c.is_within.ensures,
+      c.refuse_unless-v5.ensures,
+      c.volume.ensures.0,
     )
 
-pub judge-shape-spec : {M : Type 1} → statement M
-judge-shape-spec =
+pub judge_shape_spec : {M : Type 1} → statement M
+judge_shape_spec =
     tie.close
     (tie.spec
     (λ c κs. search rules)

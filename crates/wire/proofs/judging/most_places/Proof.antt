@@ -3,14 +3,14 @@ use borrow.Author.Tests.{eq-eqb, ne_eqb}
 use Rattle.wire.proofs.judging.most_places.Statement.{statement}
 use Rattle.wire.proofs.judging.most_places.Tie as tie
 
-returns : tie.Need-returns
-returns c = simp (eq-eqb _ _ c.if1.true)
+returns : tie.Need-returns-then-mode-eq-CHOICES
+returns c = simp (eq-eqb _ _ c.if-mode-eq-CHOICES.true)
 
-returns-2 : tie.Need-returns-2
-returns-2 c = simp (ne_eqb _ _ c.if1.false)
+returns-2 : tie.Need-returns-else-mode-eq-CHOICES
+returns-2 c = simp (ne_eqb _ _ c.if-mode-eq-CHOICES.false)
 
-pub most-places-spec : {M : Type 1} → statement M
-most-places-spec =
+pub most_places_spec : {M : Type 1} → statement M
+most_places_spec =
     tie.close
     (tie.spec
     returns

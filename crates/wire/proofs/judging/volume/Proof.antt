@@ -6,25 +6,25 @@ use borrow.Author.Rules.{rules}
 use Rattle.wire.proofs.judging.volume.Statement.{statement}
 use Rattle.wire.proofs.judging.volume.Tie as tie
 
-mul-result : tie.Need-overflow-mul-result
+mul-result : tie.Need-overflow_mul-result
 mul-result c =
-    let s = c.before.before.args.s in
+    let s = c.args.s in
     omega (arith, mul_le_both s.rows s.places 65535 65535 (omega arith) (omega arith))
 
-mul-result-2 : tie.Need-overflow-mul-result-2
+mul-result-2 : tie.Need-overflow_mul-result-2
 mul-result-2 c =
-    let s = c.before.before.before.args.s in
+    let s = c.args.s in
     let mn : s.rows * s.places ≤ 4294836225 = mul_le_both s.rows s.places 65535 65535 (omega arith) (omega arith) in
     omega (arith, mul_le_both (s.rows * s.places) s.bytes 4294836225 255 mn (omega arith))
 
 returns : tie.Need-returns
 returns c =
-    let s = c.before.before.before.args.s in
+    let s = c.args.s in
     let mn : s.rows * s.places ≤ 4294836225 = mul_le_both s.rows s.places 65535 65535 (omega arith) (omega arith) in
     (search rules, omega (arith, mul_le_both (s.rows * s.places) s.bytes 4294836225 255 mn (omega arith)))
 
-pub volume-spec : {M : Type 1} → statement M
-volume-spec =
+pub volume_spec : {M : Type 1} → statement M
+volume_spec =
     tie.close
     (tie.spec
     (λ c. search rules)

@@ -11,22 +11,22 @@ use borrow.Author.Rules.{rules}
 use Rattle.wire.proofs.receiving.check_padding.Statement.{statement}
 use Rattle.wire.proofs.receiving.check_padding.Tie as tie
 
-returns : tie.Need-returns
-returns c = sym (padding_none _ _ _ _ c.if1.true)
+returns : tie.Need-returns-then-message-lt-BLOCK_AT
+returns c = sym (padding_none _ _ _ _ c.if-message-lt-BLOCK_AT.true)
 
-returns-2 : tie.Need-returns-2
+returns-2 : tie.Need-returns-then-tag-eq-TAG_COLUMNS
 unfolding padding_verdict
 returns-2 c =
-    let message = c.before.before.before.before.before.before.args.message.now in
+    let message = c.args.message.now in
     let whole : take (length message - 27) (drop 27 message) ≡ drop 27 message = take_all (length message - 27) (drop 27 message) (simp length-drop (omega arith)) in
-    simp (eq-eqb c.before.before.before.before.before.before.args.tag 3 c.before.before.before.if2.true) (c.refuse-padded.ensures ∙ rw (c.before.before.columns_of.ensures.is, whole))
+    simp (eq-eqb c.args.tag 3 c.if-tag-eq-TAG_COLUMNS.true) (c.refuse_padded.ensures ∙ rw (c.columns_of.ensures.is, whole))
 
-returns-3 : tie.Need-returns-3
+returns-3 : tie.Need-returns-else-tag-eq-TAG_COLUMNS
 unfolding padding_verdict
-returns-3 c = simp (ne_eqb c.before.before.before.args.tag 3 c.if2.false)
+returns-3 c = simp (ne_eqb c.args.tag 3 c.if-tag-eq-TAG_COLUMNS.false)
 
-pub check-padding-spec : {M : Type 1} → statement M
-check-padding-spec =
+pub check_padding_spec : {M : Type 1} → statement M
+check_padding_spec =
     tie.close
     (tie.spec
     returns

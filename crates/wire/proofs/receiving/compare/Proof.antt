@@ -7,10 +7,10 @@ use Rattle.wire.proofs.receiving.compare.Tie as tie
 
 returns : tie.Need-returns
 unfolding at_first
-returns c = rw (c.refuse-unless.ensures, c.before.first-differing.ensures, zero-add)
+returns c = rw (c.refuse_unless.ensures, c.first_differing-i.ensures, zero-add)
 
-pub compare-spec : {M : Type 1} → statement M
-compare-spec =
+pub compare_spec : {M : Type 1} → statement M
+compare_spec =
     tie.close
     (tie.spec
     (λ c κs. search rules)

@@ -6,8 +6,8 @@ use Rattle.wire.proofs.receiving.compare_shape.Tie as tie
 returns : tie.Need-returns
 returns c = c.compare.ensures
 
-pub compare-shape-spec : {M : Type 1} → statement M
-compare-shape-spec =
+pub compare_shape_spec : {M : Type 1} → statement M
+compare_shape_spec =
     tie.close
     (tie.spec
     (λ c. search rules)

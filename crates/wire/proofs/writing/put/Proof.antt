@@ -6,7 +6,7 @@ use Rattle.wire.proofs.writing.put.Statement.{statement}
 use Rattle.wire.proofs.writing.put.Tie as tie
 
 returns : tie.Need-returns
-returns c = c.before.before.copy.ensures ∙ over_whole _ _ c.before.before.before.before.before.before.requires
+returns c = c.copy.ensures ∙ over_whole _ _ c.requires
 
 pub put_spec : {M : Type 1} → statement M
 put_spec =

@@ -9,27 +9,27 @@ use borrow.Author.Rules.{rules}
 use Rattle.wire.proofs.writing.write_header.Statement.{statement}
 use Rattle.wire.proofs.writing.write_header.Tie as tie
 
-returns : tie.Need-returns
+returns : tie.Need-returns-then-session-ne-SESSION_BYTES
 unfolding header_written
-returns c = sym (rw (ne_eqb (length c.before.before.before.args.session.now) 12 c.if1.true))
+returns c = sym (rw (ne_eqb (length c.args.session.now) 12 c.if-session-ne-SESSION_BYTES.true))
 
-returns-2 : tie.Need-returns-2
+returns-2 : tie.Need-returns-then-out-ne-BLOCK_AT
 unfolding header_written
-returns-2 c = sym (rw (eq-eqb (length c.before.before.before.before.args.session.now) 12 c.before.if1.false, ne_eqb (length c.before.before.before.before.args.out.now) 27 c.if2.true))
+returns-2 c = sym (rw (eq-eqb (length c.args.session.now) 12 c.if-session-ne-SESSION_BYTES.false, ne_eqb (length c.args.out.now) 27 c.if-out-ne-BLOCK_AT.true))
 
-returns-3 : tie.Need-returns-3
+returns-3 : tie.Need-returns-then-len-gt-MOST_LENGTH
 unfolding header_written
-returns-3 c = sym (rw (eq-eqb (length c.before.before.before.before.before.args.session.now) 12 c.before.before.if1.false, eq-eqb (length c.before.before.before.before.before.args.out.now) 27 c.before.if2.false, le-ltb c.before.before.before.before.before.args.len 65536 c.if3.true))
+returns-3 c = sym (rw (eq-eqb (length c.args.session.now) 12 c.if-session-ne-SESSION_BYTES.false, eq-eqb (length c.args.out.now) 27 c.if-out-ne-BLOCK_AT.false, le-ltb c.args.len 65536 c.if-len-gt-MOST_LENGTH.true))
 
-returns-4 : tie.Need-returns-4
+returns-4 : tie.Need-returns
 unfolding header
 returns-4 c =
-    let a = c.before.before.before.before.before.before.before.before.before.before.before.before.before.before.before.before.before.before.before.before.before.before.before.args in
-    three_parts a.out.now c.before.before.before.before.before.before.before.before.before.before.before.before.before.before.before.before.before.before.before.if2.false c.before.before.before.before.before.before.before.before.before.before.before.put.ensures c.before.before.before.before.before.before.before.put2.ensures c.before.before.put3.ensures refl c.before.before.before.before.before.before.before.before.before.before.before.before.before.before.before.before.before.before.before.before.if1.false refl
-    ∙ sym (header-written _ _ _ _ _ _ a.session.now a.out.now c.before.before.before.before.before.before.before.before.before.before.before.before.before.before.before.before.before.before.before.before.if1.false c.before.before.before.before.before.before.before.before.before.before.before.before.before.before.before.before.before.before.before.if2.false (omega arith))
+    let a = c.args in
+    three_parts a.out.now c.if-out-ne-BLOCK_AT.false c.put.ensures c.put-2.ensures c.put-3.ensures refl c.if-session-ne-SESSION_BYTES.false refl
+    ∙ sym (header-written _ _ _ _ _ _ a.session.now a.out.now c.if-session-ne-SESSION_BYTES.false c.if-out-ne-BLOCK_AT.false (omega arith))
 
-pub write-header-spec : {M : Type 1} → statement M
-write-header-spec =
+pub write_header_spec : {M : Type 1} → statement M
+write_header_spec =
     tie.close
     (tie.spec
     returns

@@ -41,89 +41,89 @@ straight_below t =
 less : (q t : ℕ) → q ≡ t → (q ≡ 0 → ⊥) → q - 1 < t
 less q t e ne = let p : 0 < q = pos_of_ne-zero ne in omega arith
 
-pub +flipped-straight-spec : {M : Type 1} → statement M
+pub +flipped_straight_spec : {M : Type 1} → statement M
 unfolding straight_word
-+flipped-straight-spec =
++flipped_straight_spec =
     close μ_flipped μ_straight
     (λ t. flipped-lts.spec (flipped_below t, flipped.Post, straight_below t, straight.Post) (flipped_at t) flipped.Post
-    (λ c. omega (arith, pow_pos c.before.before.args.q))
+    (λ c. omega (arith, pow_pos c.args.q))
     (λ c. search rules)
-    (λ c. one_place c.before.before.args.buf.now 1 c.before.before.args.q c.before.before.requires.1 c.if1.true ∙ ap (λ (q : ℕ). flipped_word q c.before.before.args.r) (sym c.if1.true))
+    (λ c. one_place c.args.buf.now 1 c.args.q c.requires.1 c.if-q-eq0.true ∙ ap (λ (q : ℕ). flipped_word q c.args.r) (sym c.if-q-eq0.true))
     (λ c. search rules)
-    (λ c. half_pos _ c.before.before.args.q c.before.before.requires.1 c.if1.false)
+    (λ c. half_pos _ c.args.q c.requires.1 c.if-q-eq0.false)
     (λ c. search rules)
-    (λ c. sym (front_length c.before.before.before.args.buf.now))
+    (λ c. sym (front_length c.args.buf.now))
     (λ c κs.
-    let s = c.before.before.before in
-    let n : s.args.q ≡ 0 → ⊥ = c.before.if1.false in
+    let s = c in
+    let n : s.args.q ≡ 0 → ⊥ = c.if-q-eq0.false in
     (less s.args.q t s.requires.0 n, front_length s.args.buf.now ∙ half_of (length s.args.buf.now) s.args.q s.requires.1 n))
-    (λ c. half_pos _ c.before.before.before.before.before.before.args.q c.before.before.before.before.before.before.requires.1 c.before.before.before.before.if1.false)
+    (λ c. half_pos _ c.args.q c.requires.1 c.if-q-eq0.false)
     (λ c. search rules)
     (λ c. search rules)
     (λ c. search rules)
     (λ c κs.
-    let s = c.before.before.before.before.before.before.before.before in
-    let n : s.args.q ≡ 0 → ⊥ = c.before.before.before.before.before.before.if1.false in
-    let f = c.before.before.before.before.flipped in
-    (less s.args.q t s.requires.0 n, back_length s.args.buf.now f.new.0 s.args.q s.requires.1 n f.auto.0))
+    let s = c in
+    let n : s.args.q ≡ 0 → ⊥ = c.if-q-eq0.false in
+    let f = c.flipped in
+    (less s.args.q t s.requires.0 n, back_length s.args.buf.now f.new.buf s.args.q s.requires.1 n f.auto.buf))
     (λ c. search rules)
     (λ c. search rules)
     (λ c. search rules)
     (λ c κs.
-    let s = c.before.before.before.before.before.before.before.before in
-    let n : s.args.q ≡ 0 → ⊥ = c.before.before.before.before.before.before.if1.false in
-    let f = c.before.before.before.before.flipped in
-    (less s.args.q t s.requires.0 n, back_length s.args.buf.now f.new.0 s.args.q s.requires.1 n f.auto.0))
+    let s = c in
+    let n : s.args.q ≡ 0 → ⊥ = c.if-q-eq0.false in
+    let f = c.flipped in
+    (less s.args.q t s.requires.0 n, back_length s.args.buf.now f.new.buf s.args.q s.requires.1 n f.auto.buf))
     (λ c. search rules)
     (λ c.
-    let s = c.before.before.before.before.before.before.before.before.before.before.before in
-    let f = c.before.before.before.before.before.before.before.flipped in
-    let g = c.before.before.flipped2 in
-    ends_same flipped_word straight_word (λ k r. refl) s.args.buf.now f.new.0 g.new.0 s.args.q s.args.r s.requires.1 c.before.before.before.before.before.before.before.before.before.if1.false f.auto.0 f.ensures g.ensures c.before.before.before.before.if2.true)
+    let s = c in
+    let f = c.flipped in
+    let g = c.flipped-then-r-half-eq0 in
+    ends_same flipped_word straight_word (λ k r. refl) s.args.buf.now f.new.buf g.new.buf s.args.q s.args.r s.requires.1 c.if-q-eq0.false f.auto.buf f.ensures g.ensures c.if-r-half-eq0.true)
     (λ c. search rules)
     (λ c.
-    let s = c.before.before.before.before.before.before.before.before.before.before.before in
-    let f = c.before.before.before.before.before.before.before.flipped in
-    let g = c.before.before.straight in
-    ends_other flipped_word straight_word (λ k r. refl) s.args.buf.now f.new.0 g.new.0 s.args.q s.args.r s.requires.1 c.before.before.before.before.before.before.before.before.before.if1.false f.auto.0 f.ensures g.ensures c.before.before.before.before.if2.false))
+    let s = c in
+    let f = c.flipped in
+    let g = c.straight in
+    ends_other flipped_word straight_word (λ k r. refl) s.args.buf.now f.new.buf g.new.buf s.args.q s.args.r s.requires.1 c.if-q-eq0.false f.auto.buf f.ensures g.ensures c.if-r-half-eq0.false))
     (λ t. straight-lts.spec (straight_below t, straight.Post, flipped_below t, flipped.Post) (straight_at t) straight.Post
-    (λ c. omega (arith, pow_pos c.before.before.args.q))
+    (λ c. omega (arith, pow_pos c.args.q))
     (λ c. search rules)
-    (λ c. one_place c.before.before.args.buf.now 0 c.before.before.args.q c.before.before.requires.1 c.if1.true ∙ ap (λ (q : ℕ). straight_word q c.before.before.args.r) (sym c.if1.true))
+    (λ c. one_place c.args.buf.now 0 c.args.q c.requires.1 c.if-q-eq0.true ∙ ap (λ (q : ℕ). straight_word q c.args.r) (sym c.if-q-eq0.true))
     (λ c. search rules)
-    (λ c. half_pos _ c.before.before.args.q c.before.before.requires.1 c.if1.false)
+    (λ c. half_pos _ c.args.q c.requires.1 c.if-q-eq0.false)
     (λ c. search rules)
-    (λ c. sym (front_length c.before.before.before.args.buf.now))
+    (λ c. sym (front_length c.args.buf.now))
     (λ c κs.
-    let s = c.before.before.before in
-    let n : s.args.q ≡ 0 → ⊥ = c.before.if1.false in
+    let s = c in
+    let n : s.args.q ≡ 0 → ⊥ = c.if-q-eq0.false in
     (less s.args.q t s.requires.0 n, front_length s.args.buf.now ∙ half_of (length s.args.buf.now) s.args.q s.requires.1 n))
-    (λ c. half_pos _ c.before.before.before.before.before.before.args.q c.before.before.before.before.before.before.requires.1 c.before.before.before.before.if1.false)
+    (λ c. half_pos _ c.args.q c.requires.1 c.if-q-eq0.false)
     (λ c. search rules)
     (λ c. search rules)
     (λ c. search rules)
     (λ c κs.
-    let s = c.before.before.before.before.before.before.before.before in
-    let n : s.args.q ≡ 0 → ⊥ = c.before.before.before.before.before.before.if1.false in
-    let f = c.before.before.before.before.straight in
-    (less s.args.q t s.requires.0 n, back_length s.args.buf.now f.new.0 s.args.q s.requires.1 n f.auto.0))
+    let s = c in
+    let n : s.args.q ≡ 0 → ⊥ = c.if-q-eq0.false in
+    let f = c.straight in
+    (less s.args.q t s.requires.0 n, back_length s.args.buf.now f.new.buf s.args.q s.requires.1 n f.auto.buf))
     (λ c. search rules)
     (λ c. search rules)
     (λ c. search rules)
     (λ c κs.
-    let s = c.before.before.before.before.before.before.before.before in
-    let n : s.args.q ≡ 0 → ⊥ = c.before.before.before.before.before.before.if1.false in
-    let f = c.before.before.before.before.straight in
-    (less s.args.q t s.requires.0 n, back_length s.args.buf.now f.new.0 s.args.q s.requires.1 n f.auto.0))
+    let s = c in
+    let n : s.args.q ≡ 0 → ⊥ = c.if-q-eq0.false in
+    let f = c.straight in
+    (less s.args.q t s.requires.0 n, back_length s.args.buf.now f.new.buf s.args.q s.requires.1 n f.auto.buf))
     (λ c. search rules)
     (λ c.
-    let s = c.before.before.before.before.before.before.before.before.before.before.before in
-    let f = c.before.before.before.before.before.before.before.straight in
-    let g = c.before.before.straight2 in
-    ends_same straight_word flipped_word (λ k r. refl) s.args.buf.now f.new.0 g.new.0 s.args.q s.args.r s.requires.1 c.before.before.before.before.before.before.before.before.before.if1.false f.auto.0 f.ensures g.ensures c.before.before.before.before.if2.true)
+    let s = c in
+    let f = c.straight in
+    let g = c.straight-then-r-half-eq0 in
+    ends_same straight_word flipped_word (λ k r. refl) s.args.buf.now f.new.buf g.new.buf s.args.q s.args.r s.requires.1 c.if-q-eq0.false f.auto.buf f.ensures g.ensures c.if-r-half-eq0.true)
     (λ c. search rules)
     (λ c.
-    let s = c.before.before.before.before.before.before.before.before.before.before.before in
-    let f = c.before.before.before.before.before.before.before.straight in
-    let g = c.before.before.flipped in
-    ends_other straight_word flipped_word (λ k r. refl) s.args.buf.now f.new.0 g.new.0 s.args.q s.args.r s.requires.1 c.before.before.before.before.before.before.before.before.before.if1.false f.auto.0 f.ensures g.ensures c.before.before.before.before.if2.false))
+    let s = c in
+    let f = c.straight in
+    let g = c.flipped in
+    ends_other straight_word flipped_word (λ k r. refl) s.args.buf.now f.new.buf g.new.buf s.args.q s.args.r s.requires.1 c.if-q-eq0.false f.auto.buf f.ensures g.ensures c.if-r-half-eq0.false))
