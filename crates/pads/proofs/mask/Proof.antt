@@ -12,25 +12,25 @@ use Rattle.pads.proofs.mask.Statement.{statement}
 use Rattle.pads.proofs.mask.Tie as tie
 
 -- the lengths, where the guard passed
-fits : (c : tie.Then1) → let a = c.before.before.before.before.before.args in PadFit (length a.session.now) (length a.row.now) (length a.string.now)
-fits c = pad_fit_passed _ _ _ (sym c.before.pad-fit.ensures ∙ c.if1.true)
+fits : (c : tie.Then-pad_fit) → let a = c.args in PadFit (length a.session.now) (length a.row.now) (length a.string.now)
+fits c = pad_fit_passed _ _ _ (sym c.pad_fit.ensures ∙ c.if-pad_fit.true)
 
-pad-requires : tie.Need-pad-requires
+pad-requires : tie.Need-pad-bytes-requires
 pad-requires c κs = let f = fits c in (f.session_long, f.row_few)
 
-returns : tie.Need-returns
+returns : tie.Need-returns-then-pad_fit
 unfolding pad_masked
 returns c =
-    let made = c.before.before.before.before.before in
-    let t = made.before in
-    let a = t.before.before.before.before.before.args in
-    pick_passed _ (sym t.before.pad-fit.ensures ∙ t.if1.true)
-    (c.before.before.xor-into.ensures
-    ∙ ap (λ (x : List ℕ). a.string.now ⊕ x) made.pad.ensures ∙ pad_front a.session.now a.j a.row.now a.string.now (fits t).pad_few)
+    let made = c in
+    let t = made.before.before.before.before.before.before in
+    let a = t.args in
+    pick_passed _ (sym t.pad_fit.ensures ∙ t.if-pad_fit.true)
+    (c.xor_into.ensures
+    ∙ ap (λ (x : List ℕ). a.string.now ⊕ x) made.pad-bytes.ensures ∙ pad_front a.session.now a.j a.row.now a.string.now (fits t).pad_few)
 
-returns-2 : tie.Need-returns-2
+returns-2 : tie.Need-returns-else-pad_fit
 unfolding pad_masked
-returns-2 c = pick_failed _ (sym c.before.pad-fit.ensures ∙ c.if1.false) refl
+returns-2 c = pick_failed _ (sym c.pad_fit.ensures ∙ c.if-pad_fit.false) refl
 
-pub mask-spec : {M : Type 1} → statement M
-mask-spec = tie.close (tie.spec (λ c κs. search rules) pad-requires (λ c. search rules) (λ c κs. search rules) (λ c. search rules) returns returns-2)
+pub mask_spec : {M : Type 1} → statement M
+mask_spec = tie.close (tie.spec (λ c κs. search rules) pad-requires (λ c. search rules) (λ c κs. search rules) (λ c. search rules) returns returns-2)

@@ -8,23 +8,23 @@ use Rattle.pads.proofs.Pads.{hash_passed, pad_digest}
 use Rattle.pads.proofs.pad.Statement.{statement}
 use Rattle.pads.proofs.pad.Tie as tie
 
-put-input-requires : tie.Need-put-input-requires
-put-input-requires c κs = let s = c.before.before.before in (s.requires.0, s.requires.1, refl, refl)
+put-input-requires : tie.Need-put_input-requires
+put-input-requires c κs = let s = c in (s.requires.0, s.requires.1, refl, refl)
 
-part-hash-end : tie.Need-slice-bounds-hash-end
-part-hash-end c = omega (arith, c.before.before.before.before.before.before.requires.1, c.before.input2.given)
+part-hash-end : tie.Need-slice_bounds-hash-end
+part-hash-end c = omega (arith, c.requires.1, c.input-2-1.given)
 
 returns : tie.Need-returns
 returns c =
-    let hashed = c.before in
-    let put = hashed.before.before.before.before.before in
-    let s = put.before.before.before.before in
+    let hashed = c in
+    let put = hashed in
+    let s = put in
     let a = s.args in
-    pad_digest a.session.now a.j a.row.now (16 + length a.row.now) _ put.put-input.ensures
+    pad_digest a.session.now a.j a.row.now (16 + length a.row.now) _ put.put_input.ensures
     (hash_passed hashed.hash.ensures (simp length-take (omega (arith, s.requires.1))))
 
-pub pad-spec : {M : Type 1} → statement M
-pad-spec =
+pub pad_spec : {M : Type 1} → statement M
+pad_spec =
     tie.close
     (tie.spec
     (λ c. search rules)

@@ -9,15 +9,15 @@ use Rattle.pads.proofs.put_input.Tie as tie
 
 returns : tie.Need-returns
 returns c =
-    let third = c.before.before in
-    let second = third.before.before.before.before in
-    let first = second.before.before.before.before.before in
-    let s = first.before.before.before.before.before in
-    three_parts s.args.input.now s.args.session.now _ _ _ s.requires.3 first.copy.ensures second.copy2.ensures s.requires.0 refl
-    (simp (length-take, length-drop) (omega arith)) (simp (length-take, length-drop) (omega arith)) s.args.row.now s.requires.1 third.xor-into.ensures
+    let third = c in
+    let second = third in
+    let first = second in
+    let s = first in
+    three_parts s.args.input.now s.args.session.now _ _ _ s.requires.3 first.copy.ensures second.copy-2.ensures s.requires.0 refl
+    (simp (length-take, length-drop) (omega arith)) (simp (length-take, length-drop) (omega arith)) s.args.row.now s.requires.1 third.xor_into.ensures
 
-pub put-input-spec : {M : Type 1} → statement M
-put-input-spec =
+pub put_input_spec : {M : Type 1} → statement M
+put_input_spec =
     tie.close
     (tie.spec
     (λ c. search rules)

@@ -9,8 +9,8 @@ use Rattle.columns.proofs.adding.add_column.Tie as tie
 returns : tie.Need-returns
 returns c =
     let s = c.before.before.before.before.before.before.before.before.before in
-    c.before.before.xor-into.ensures
-    ∙ xor_agree s.args.out.now _ _ (λ p h. c.before.before.before.before.before.expand.ensures p (omega arith))
+    c.xor_into.ensures
+    ∙ xor_agree s.args.out.now _ _ (λ p h. c.expand-work.ensures p (omega arith))
 
-pub add-column-spec : {M : Type 1} → statement M
-add-column-spec = tie.close (tie.spec (λ c κs. search rules) (λ c. search rules) (λ c κs. search rules) (λ c. search rules) returns)
+pub add_column_spec : {M : Type 1} → statement M
+add_column_spec = tie.close (tie.spec (λ c κs. search rules) (λ c. search rules) (λ c κs. search rules) (λ c. search rules) returns)

@@ -13,44 +13,44 @@ use Rattle.columns.proofs.Sets.{added, added_part, added_all}
 use Rattle.columns.proofs.adding.add_expanded.Statement.{statement}
 use Rattle.columns.proofs.adding.add_expanded.Tie as tie
 
-abbrev invariant-loop : tie.invariant-loop
+abbrev invariant-loop : tie.invariant-loop-i
 invariant-loop count m c session seeds block₀ i₀ a₀ block i a = (Filled (added m session seeds block₀) a block₀ block) × (i ≤ count) × (a ≡ i * col_bytes m)
 
-abbrev decreases-loop : tie.decreases-loop
+abbrev decreases-loop : tie.decreases-loop-i
 decreases-loop count m c session seeds block₀ i₀ a₀ block i a = count - i
 
 -- the next column, and its seed, stand where they are looked for
-inside : (l : tie.At-loop invariant-loop decreases-loop) → l.loop.i < l.before.before.before.before.args.count
-    → (l.loop.a + l.before.before.before.before.args.c ≤ length l.before.before.before.before.args.block.now)
-    × (l.loop.i * 32 + 32 ≤ length l.before.before.before.before.args.seeds.now)
+inside : (l : tie.At-loop-i invariant-loop decreases-loop) → l.loop-i.i < l.args.count
+    → (l.loop-i.a + l.args.c ≤ length l.args.block.now)
+    × (l.loop-i.i * 32 + 32 ≤ length l.args.seeds.now)
 inside l h =
     let s = l.before.before.before.before in
     let c = col_bytes s.args.m in
-    let end : (l.loop.i + 1) * c ≤ s.args.count * c = mul-le-mul_right c (omega arith) in
+    let end : (l.loop-i.i + 1) * c ≤ s.args.count * c = mul-le-mul_right c (omega arith) in
     let long : length s.args.block.now ≡ s.args.count * c = s.requires.5 ∙ ap (λ (n : ℕ). s.args.count * n) s.requires.2 in
-    (omega (arith, line_next c l.loop.i, s.requires.2), omega arith)
+    (omega (arith, line_next c l.loop-i.i, s.requires.2), omega arith)
 
-add-column-requires : tie.Need-add-column-requires invariant-loop decreases-loop
+add-column-requires : tie.Need-add_column-requires invariant-loop decreases-loop
 add-column-requires c κs =
     let l = c.before.before.before in
     let s = l.before.before.before.before in
-    let room = inside l c.before.before.loop-test.true in
-    (s.requires.0, s.requires.1, s.requires.2, s.requires.3, simp (length-take, length-drop) (omega arith), simp (length-take, length-drop) (omega (arith, l.loop.invariant.0.long)))
+    let room = inside l c.loop-i-test.true in
+    (s.requires.0, s.requires.1, s.requires.2, s.requires.3, simp (length-take, length-drop) (omega arith), simp (length-take, length-drop) (omega (arith, l.loop-i.invariant.0.long)))
 
-loop-again : tie.Need-loop-preserved invariant-loop decreases-loop
+loop-again : tie.Need-loop-i-preserved invariant-loop decreases-loop
 loop-again c =
     let l = c.before.before.before.before.before.before in
     let s = l.before.before.before.before in
     let m = s.args.m in
-    let room = inside l c.before.before.before.before.before.loop-test.true in
-    let end : l.loop.a + s.args.c ≡ l.loop.a + col_bytes m = ap (λ (n : ℕ). l.loop.a + n) s.requires.2 in
-    let size : l.loop.i * 32 + 32 - l.loop.i * 32 ≡ 32 = omega arith in (
-      filled_part (col_bytes m) l.loop.invariant.0 end room.0
-          (c.before.before.add-column.ensures
-          ∙ added_part m l.loop.i l.loop.a (l.loop.a + s.args.c) s.args.session.now s.args.seeds.now l.loop.invariant.0 l.loop.invariant.2 end room.0
-          (ap (λ (n : ℕ). take n (drop (l.loop.i * 32) s.args.seeds.now)) size)),
+    let room = inside l c.loop-i-test.true in
+    let end : l.loop-i.a + s.args.c ≡ l.loop-i.a + col_bytes m = ap (λ (n : ℕ). l.loop-i.a + n) s.requires.2 in
+    let size : l.loop-i.i * 32 + 32 - l.loop-i.i * 32 ≡ 32 = omega arith in (
+      filled_part (col_bytes m) l.loop-i.invariant.0 end room.0
+          (c.add_column.ensures
+          ∙ added_part m l.loop-i.i l.loop-i.a (l.loop-i.a + s.args.c) s.args.session.now s.args.seeds.now l.loop-i.invariant.0 l.loop-i.invariant.2 end room.0
+          (ap (λ (n : ℕ). take n (drop (l.loop-i.i * 32) s.args.seeds.now)) size)),
       omega arith,
-      omega (arith, line_next (col_bytes m) l.loop.i),
+      omega (arith, line_next (col_bytes m) l.loop-i.i),
     )
 
 returns : tie.Need-returns invariant-loop decreases-loop
@@ -58,29 +58,29 @@ returns c =
     let l = c.before in
     let s = l.before.before.before.before in
     let long : length s.args.block.now ≡ s.args.count * col_bytes s.args.m = s.requires.5 ∙ ap (λ (n : ℕ). s.args.count * n) s.requires.2 in
-    let all : l.loop.i ≡ s.args.count = omega arith in
-    filled_end l.loop.invariant.0 long (omega (arith, l.loop.invariant.2, ap (λ (n : ℕ). n * col_bytes s.args.m) all))
+    let all : l.loop-i.i ≡ s.args.count = omega arith in
+    filled_end l.loop-i.invariant.0 long (omega (arith, l.loop-i.invariant.2, ap (λ (n : ℕ). n * col_bytes s.args.m) all))
     ∙ added_all s.args.count s.args.m s.args.session.now s.args.seeds.now s.args.block.now long
 
-pub add-expanded-spec : {M : Type 1} → statement M
-add-expanded-spec =
+pub add_expanded_spec : {M : Type 1} → statement M
+add_expanded_spec =
     tie.close
     (tie.spec
     invariant-loop
     decreases-loop
     (λ c. (filled_none _ _, omega arith, omega arith))
-    (λ c. omega (arith, inside c.before c.loop-test.true))
+    (λ c. omega (arith, inside c.before c.loop-i-test.true))
     (λ c. omega arith)
     (λ c. omega arith)
     (λ c. omega arith)
     (λ c. omega arith)
-    (λ c. omega (arith, inside c.before c.loop-test.true))
+    (λ c. omega (arith, inside c.before c.loop-i-test.true))
     (λ c. omega arith)
     (λ c. omega arith)
-    (λ c. omega (arith, inside c.before.before c.before.loop-test.true, c.before.before.loop.invariant.0.long))
+    (λ c. omega (arith, inside c.before.before c.loop-i-test.true, c.loop-i.invariant.0.long))
     add-column-requires
     (λ c. search rules)
     (λ c. search rules)
     loop-again
-    (λ c. c.before.loop.invariant.0.long)
+    (λ c. c.loop-i.invariant.0.long)
     returns)

@@ -15,41 +15,41 @@ use Rattle.columns.proofs.adding.add_set.Statement.{statement}
 use Rattle.columns.proofs.adding.add_set.Tie as tie
 
 -- what the guard says, where it held
-fit : (t : tie.Then1)
-    → SetFit t.before.before.before.before.before.args.seeded t.before.before.before.before.before.args.count
-    t.before.before.before.before.before.args.rows (length t.before.before.before.before.before.args.session.now)
-    (length t.before.before.before.before.before.args.set.now) (length t.before.before.before.before.before.args.block.now)
-fit t = set_fit_passed _ _ _ _ _ _ (sym t.before.set-fit.ensures ∙ t.if1.true)
+fit : (t : tie.Then-set_fit)
+    → SetFit t.args.seeded t.args.count
+    t.args.rows (length t.args.session.now)
+    (length t.args.set.now) (length t.args.block.now)
+fit t = set_fit_passed _ _ _ _ _ _ (sym t.set_fit.ensures ∙ t.if-set_fit.true)
 
-add-expanded-requires : tie.Need-add-expanded-requires
+add-expanded-requires : tie.Need-add_expanded-requires
 add-expanded-requires c κs =
     let t = c.before.before.before in
-    let a = t.before.before.before.before.before.args in
+    let a = t.args in
     let f = fit t in
-    let long : length a.set.now ≡ a.count * 32 = f.set_long ∙ ap (λ (b : Bool). a.count * pick b 32 (col_bytes a.rows)) c.before.before.if2.true in
-    (f.some, f.few, c.before.column-bytes.ensures, f.session_long, long, f.block_long ∙ ap (λ (x : ℕ). a.count * x) (sym c.before.column-bytes.ensures), omega arith)
+    let long : length a.set.now ≡ a.count * 32 = f.set_long ∙ ap (λ (b : Bool). a.count * pick b 32 (col_bytes a.rows)) c.if-seeded.true in
+    (f.some, f.few, c.column_bytes.ensures, f.session_long, long, f.block_long ∙ ap (λ (x : ℕ). a.count * x) (sym c.column_bytes.ensures), omega arith)
 
-returns : tie.Need-returns
+returns : tie.Need-returns-then-seeded
 returns c =
     let t = c.before.before.before.before.before.before in
-    let a = t.before.before.before.before.before.args in
-    pick_passed _ (sym t.before.set-fit.ensures ∙ t.if1.true)
-    (c.before.before.add-expanded.ensures
-    ∙ ap (λ (b : Bool). a.block.now ⊕ columns_of b a.count a.rows a.session.now a.set.now) (sym c.before.before.before.before.before.if2.true))
+    let a = t.args in
+    pick_passed _ (sym t.set_fit.ensures ∙ t.if-set_fit.true)
+    (c.add_expanded.ensures
+    ∙ ap (λ (b : Bool). a.block.now ⊕ columns_of b a.count a.rows a.session.now a.set.now) (sym c.if-seeded.true))
 
-returns-2 : tie.Need-returns-2
+returns-2 : tie.Need-returns-else-seeded
 returns-2 c =
     let t = c.before.before.before.before.before in
-    let a = t.before.before.before.before.before.args in
-    pick_passed _ (sym t.before.set-fit.ensures ∙ t.if1.true)
-    (c.before.before.xor-into.ensures
-    ∙ ap (λ (b : Bool). a.block.now ⊕ columns_of b a.count a.rows a.session.now a.set.now) (sym c.before.before.before.before.if2.false))
+    let a = t.args in
+    pick_passed _ (sym t.set_fit.ensures ∙ t.if-set_fit.true)
+    (c.xor_into.ensures
+    ∙ ap (λ (b : Bool). a.block.now ⊕ columns_of b a.count a.rows a.session.now a.set.now) (sym c.if-seeded.false))
 
-returns-3 : tie.Need-returns-3
-returns-3 c = pick_failed _ (sym c.before.set-fit.ensures ∙ c.if1.false) refl
+returns-3 : tie.Need-returns-else-set_fit
+returns-3 c = pick_failed _ (sym c.set_fit.ensures ∙ c.if-set_fit.false) refl
 
-pub add-set-spec : {M : Type 1} → statement M
-add-set-spec =
+pub add_set_spec : {M : Type 1} → statement M
+add_set_spec =
     tie.close
     (tie.spec
     (λ c κs. search rules)

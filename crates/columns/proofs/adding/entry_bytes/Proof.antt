@@ -4,11 +4,11 @@ use borrow.Author.Rules.{rules}
 use Rattle.columns.proofs.adding.entry_bytes.Statement.{statement}
 use Rattle.columns.proofs.adding.entry_bytes.Tie as tie
 
-returns : tie.Need-returns
-returns c = (rw c.if1.true, omega arith)
+returns : tie.Need-returns-then-seeded
+returns c = (rw c.if-seeded.true, omega arith)
 
-returns-2 : tie.Need-returns-2
-returns-2 c = (rw c.before.if1.false c.column-bytes.ensures, omega (arith, c.column-bytes.ensures))
+returns-2 : tie.Need-returns-else-seeded
+returns-2 c = (rw c.if-seeded.false c.column_bytes.ensures, omega (arith, c.column_bytes.ensures))
 
-pub entry-bytes-spec : {M : Type 1} → statement M
-entry-bytes-spec = tie.close (tie.spec (λ c κs. search rules) returns returns-2)
+pub entry_bytes_spec : {M : Type 1} → statement M
+entry_bytes_spec = tie.close (tie.spec (λ c κs. search rules) returns returns-2)

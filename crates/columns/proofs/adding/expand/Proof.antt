@@ -8,10 +8,10 @@ returns : tie.Need-returns
 returns c =
     let s = c.before.before.before.before.before.before in
     column_in s.args.m s.args.c _ s.args.seed.now s.args.session.now _ s.requires.0 s.requires.1 s.requires.2 (search rules)
-    c.before.before.keystream.ensures c.low-bits.ensures
+    c.keystream.ensures c.low_bits.ensures
 
-pub expand-spec : {M : Type 1} → statement M
-expand-spec =
+pub expand_spec : {M : Type 1} → statement M
+expand_spec =
     tie.close
     (tie.spec
     (λ c. search rules)

@@ -8,23 +8,23 @@ use Rattle.columns.proofs.Sets.{block-given, one_block, two_blocks}
 use Rattle.columns.proofs.adding.keystream.Statement.{statement}
 use Rattle.columns.proofs.adding.keystream.Tie as tie
 
-returns : tie.Need-returns
+returns : tie.Need-returns-then-c-gt64
 returns c =
     let s = c.before.before.before.before.before.before.before.before.before.before.before.before in
-    let first = c.before.before.before.before.before.before.before.block.ensures in
+    let first = c.block.ensures in
     let whole = block-given _ _ _ _ first s.requires.1 s.requires.0 (simp (length-take, length-drop) (omega arith)) in
     let long = ap length whole ∙ length-chacha20 s.args.seed.now s.args.session.now 0 in
     two_blocks s.args.seed.now s.args.session.now s.args.c _ (omega arith) whole
-    (block-given _ _ _ _ c.before.before.block2.ensures s.requires.1 s.requires.0 (simp (length-take, length-drop, length-append) (omega (arith, long))))
+    (block-given _ _ _ _ c.block-then-c-gt64.ensures s.requires.1 s.requires.0 (simp (length-take, length-drop, length-append) (omega (arith, long))))
 
-returns-2 : tie.Need-returns-2
+returns-2 : tie.Need-returns-else-c-gt64
 returns-2 c =
     let s = c.before.before.before.before.before.before.before.before in
     one_block s.args.seed.now s.args.session.now s.args.c _ (omega arith)
-    (block-given _ _ _ _ c.before.before.before.block.ensures s.requires.1 s.requires.0 (simp (length-take, length-drop) (omega arith)))
+    (block-given _ _ _ _ c.block.ensures s.requires.1 s.requires.0 (simp (length-take, length-drop) (omega arith)))
 
-pub keystream-spec : {M : Type 1} → statement M
-keystream-spec =
+pub keystream_spec : {M : Type 1} → statement M
+keystream_spec =
     tie.close
     (tie.spec
     (λ c. search rules)

@@ -8,14 +8,14 @@ use lib.Pow.{pow_pos}
 use Rattle.columns.proofs.adding.low_bits.Statement.{statement}
 use Rattle.columns.proofs.adding.low_bits.Tie as tie
 
-rem-result : tie.Need-nonzero-rem-result
+rem-result : tie.Need-nonzero_rem-result
 rem-result c = rw c.power.ensures (pow_pos _)
 
-cast-result : tie.Need-overflow-cast-result
-cast-result c = omega (arith, mod-le c.before.wide.result c.power.result, c.before.wide.ensures.1)
+cast-result : tie.Need-overflow_cast-result
+cast-result c = omega (arith, mod-le c.wide.result c.power.result, c.wide.ensures.1)
 
 returns : tie.Need-returns
-returns c = ap₂ (λ (x y : ℕ). x % y) c.before.wide.ensures.0 c.power.ensures
+returns c = ap₂ (λ (x y : ℕ). x % y) c.wide.ensures.0 c.power.ensures
 
-pub low-bits-spec : {M : Type 1} → statement M
-low-bits-spec = tie.close (tie.spec (λ c κs. search rules) (λ c κs. search rules) rem-result cast-result returns)
+pub low_bits_spec : {M : Type 1} → statement M
+low_bits_spec = tie.close (tie.spec (λ c κs. search rules) (λ c κs. search rules) rem-result cast-result returns)

@@ -15,5 +15,5 @@ shifted u h =
 returns : tie.Need-returns
 returns c = shifted c.args.u c.requires
 
-pub power-spec : {M : Type 1} → statement M
-power-spec = tie.close (tie.spec (λ c. search rules) (λ c. search rules) returns)
+pub power_spec : {M : Type 1} → statement M
+power_spec = tie.close (tie.spec (λ c. search rules) (λ c. search rules) returns)

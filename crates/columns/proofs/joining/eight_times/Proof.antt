@@ -8,5 +8,5 @@ returns : tie.Need-returns
 unfolding eight_times
 returns c = search rules
 
-pub eight-times-spec : {M : Type 1} → statement M
-eight-times-spec = tie.close (tie.spec (λ c. search rules) returns)
+pub eight_times_spec : {M : Type 1} → statement M
+eight_times_spec = tie.close (tie.spec (λ c. search rules) returns)

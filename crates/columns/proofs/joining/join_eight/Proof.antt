@@ -6,16 +6,16 @@ use Rattle.columns.specs.Gathered.{joined_over}
 use Rattle.columns.proofs.joining.join_eight.Statement.{statement}
 use Rattle.columns.proofs.joining.join_eight.Tie as tie
 
-returns : tie.Need-returns
+returns : tie.Need-returns-then-eight_fit
 unfolding joined_over
 returns c =
     let t = c.before.before.before.before in
-    pick_passed _ (sym t.before.eight-fit.ensures ∙ t.if1.true) c.before.before.join-bytes.ensures
+    pick_passed _ (sym t.eight_fit.ensures ∙ t.if-eight_fit.true) c.join_bytes.ensures
 
-returns-2 : tie.Need-returns-2
+returns-2 : tie.Need-returns-else-eight_fit
 unfolding joined_over
-returns-2 c = pick_failed _ (sym c.before.eight-fit.ensures ∙ c.if1.false) refl
+returns-2 c = pick_failed _ (sym c.eight_fit.ensures ∙ c.if-eight_fit.false) refl
 
-pub join-eight-spec : {M : Type 1} → statement M
-join-eight-spec =
-    tie.close (tie.spec (λ c κs. search rules) (λ c κs. sym c.before.before.eight-fit.ensures ∙ c.before.if1.true) (λ c. search rules) returns returns-2)
+pub join_eight_spec : {M : Type 1} → statement M
+join_eight_spec =
+    tie.close (tie.spec (λ c κs. search rules) (λ c κs. sym c.eight_fit.ensures ∙ c.if-eight_fit.true) (λ c. search rules) returns returns-2)

@@ -8,8 +8,8 @@ use Rattle.columns.proofs.joining.joined_word.Tie as tie
 returns : tie.Need-returns
 returns c =
     let first = c.before.before in
-    ap₂ (joined_words first.before.before.before.before.args.keep) (first.turn.ensures ∙ ap turned first.before.eight-bytes.ensures)
-    (c.turn2.ensures ∙ ap turned c.before.eight-bytes2.ensures)
+    ap₂ (joined_words first.args.keep) (first.turn.ensures ∙ ap turned first.eight_bytes.ensures)
+    (c.turn-2.ensures ∙ ap turned c.eight_bytes-2.ensures)
 
-pub joined-word-spec : {M : Type 1} → statement M
-joined-word-spec = tie.close (tie.spec (λ c κs. search rules) (λ c κs. search rules) (λ c κs. search rules) (λ c κs. search rules) returns)
+pub joined_word_spec : {M : Type 1} → statement M
+joined_word_spec = tie.close (tie.spec (λ c κs. search rules) (λ c κs. search rules) (λ c κs. search rules) (λ c κs. search rules) returns)

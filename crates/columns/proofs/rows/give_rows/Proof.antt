@@ -14,51 +14,51 @@ use Rattle.columns.proofs.Gathered.{Rowed, rowed_none, rowed_more, rowed_end, ga
 use Rattle.columns.proofs.rows.give_rows.Statement.{statement}
 use Rattle.columns.proofs.rows.give_rows.Tie as tie
 
-abbrev invariant-loop : tie.invariant-loop
+abbrev invariant-loop : tie.invariant-loop-g
 invariant-loop rows width columns out₀ w eight g₀ a₀ out g a = (Rowed width g (lines rows width (λ j i. bit_in (col_bytes rows) columns i j)) out₀ out) × (g ≤ width) × (a ≡ g * (8 * col_bytes rows))
 
-abbrev decreases-loop : tie.decreases-loop
+abbrev decreases-loop : tie.decreases-loop-g
 decreases-loop rows width columns out₀ w eight g₀ a₀ out g a = width - g
 
 -- the next eight columns stand in the set
-inside : (l : tie.At-loop invariant-loop decreases-loop) → l.loop.g < l.before.before.before.args.width
-    → l.loop.a + 8 * col_bytes l.before.before.before.args.rows ≤ length l.before.before.before.args.columns.now
+inside : (l : tie.At-loop-g invariant-loop decreases-loop) → l.loop-g.g < l.args.width
+    → l.loop-g.a + 8 * col_bytes l.args.rows ≤ length l.args.columns.now
 inside l h =
-    let a = l.before.before.before.args in
-    let end : (l.loop.g + 1) * (8 * col_bytes a.rows) ≤ a.width * (8 * col_bytes a.rows) = mul-le-mul_right (8 * col_bytes a.rows) (omega arith) in
-    omega (arith, line_next (8 * col_bytes a.rows) l.loop.g, l.before.before.before.requires.0)
+    let a = l.args in
+    let end : (l.loop-g.g + 1) * (8 * col_bytes a.rows) ≤ a.width * (8 * col_bytes a.rows) = mul-le-mul_right (8 * col_bytes a.rows) (omega arith) in
+    omega (arith, line_next (8 * col_bytes a.rows) l.loop-g.g, l.requires.0)
 
-give-bytes-requires : tie.Need-give-bytes-requires invariant-loop decreases-loop
+give-bytes-requires : tie.Need-give_bytes-requires invariant-loop decreases-loop
 give-bytes-requires c κs =
     let l = c.before.before.before in
     let s = l.before.before.before in
-    let h = c.before.before.loop-test.true in
+    let h = c.loop-g-test.true in
     let room = inside l h in
-    (simp (length-take, length-drop) (omega arith), l.loop.invariant.0.long ∙ s.requires.1, h)
+    (simp (length-take, length-drop) (omega arith), l.loop-g.invariant.0.long ∙ s.requires.1, h)
 
-loop-again : tie.Need-loop-preserved invariant-loop decreases-loop
+loop-again : tie.Need-loop-g-preserved invariant-loop decreases-loop
 loop-again c =
     let l = c.before.before.before.before.before.before in
     let s = l.before.before.before in
     let m = s.args.rows in
-    let h = c.before.before.before.before.before.loop-test.true in
+    let h = c.loop-g-test.true in
     let room = inside l h in
-    let size : l.loop.a + 8 * col_bytes m - l.loop.a ≡ 8 * col_bytes m = omega arith in
-    let part : List ℕ = take (l.loop.a + 8 * col_bytes m - l.loop.a) (drop l.loop.a s.args.columns.now) in (
-      rowed_more m (gathered (col_bytes m) part) l.loop.invariant.0 h s.requires.1 c.before.before.give-bytes.ensures
-          (gathered-row m s.args.width l.loop.g s.args.columns.now part h
-          (ap₂ (λ (x y : ℕ). take x (drop y s.args.columns.now)) size l.loop.invariant.2)),
+    let size : l.loop-g.a + 8 * col_bytes m - l.loop-g.a ≡ 8 * col_bytes m = omega arith in
+    let part : List ℕ = take (l.loop-g.a + 8 * col_bytes m - l.loop-g.a) (drop l.loop-g.a s.args.columns.now) in (
+      rowed_more m (gathered (col_bytes m) part) l.loop-g.invariant.0 h s.requires.1 c.give_bytes.ensures
+          (gathered-row m s.args.width l.loop-g.g s.args.columns.now part h
+          (ap₂ (λ (x y : ℕ). take x (drop y s.args.columns.now)) size l.loop-g.invariant.2)),
       omega arith,
-      omega (arith, line_next (8 * col_bytes m) l.loop.g),
+      omega (arith, line_next (8 * col_bytes m) l.loop-g.g),
     )
 
 returns : tie.Need-returns invariant-loop decreases-loop
 returns c =
     let s = c.before.before.before.before in
-    rowed_end s.args.rows c.before.loop.invariant.0 (omega arith) s.requires.1 (length-lines s.args.rows s.args.width _)
+    rowed_end s.args.rows c.loop-g.invariant.0 (omega arith) s.requires.1 (length-lines s.args.rows s.args.width _)
 
-pub give-rows-spec : {M : Type 1} → statement M
-give-rows-spec =
+pub give_rows_spec : {M : Type 1} → statement M
+give_rows_spec =
     tie.close
     (tie.spec
     invariant-loop
@@ -66,13 +66,13 @@ give-rows-spec =
     (λ c. search rules)
     (λ c. search rules)
     (λ c. (rowed_none _ _ refl, omega arith, omega arith))
-    (λ c. omega (arith, inside c.before c.loop-test.true))
+    (λ c. omega (arith, inside c.before c.loop-g-test.true))
     (λ c. search rules)
     (λ c. search rules)
-    (λ c. omega (arith, inside c.before c.loop-test.true))
+    (λ c. omega (arith, inside c.before c.loop-g-test.true))
     give-bytes-requires
     (λ c. search rules)
     (λ c. search rules)
     loop-again
-    (λ c. c.before.loop.invariant.0.long)
+    (λ c. c.loop-g.invariant.0.long)
     returns)

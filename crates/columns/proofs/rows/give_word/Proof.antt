@@ -9,37 +9,37 @@ use Rattle.columns.proofs.Gathered.{Given, given_none, given_more, given_end, ro
 use Rattle.columns.proofs.rows.give_word.Statement.{statement}
 use Rattle.columns.proofs.rows.give_word.Tie as tie
 
-abbrev invariant-loop : tie.invariant-loop
+abbrev invariant-loop : tie.invariant-loop-i
 invariant-loop w count width g out₀ i₀ at₀ out i at = (Given (byte_of w) width g i out₀ out) × (i ≤ count) × (at ≡ i * width + g)
 
-abbrev decreases-loop : tie.decreases-loop
+abbrev decreases-loop : tie.decreases-loop-i
 decreases-loop w count width g out₀ i₀ at₀ out i at = count - i
 
 -- the place of the next store stands in the rows
-inside : (l : tie.At-loop invariant-loop decreases-loop) → l.loop.i < l.before.args.count → l.loop.at < l.before.args.count * l.before.args.width
-inside l h = rw l.loop.invariant.2 (row_at l.before.args.count l.before.args.width l.before.args.g l.loop.i h (omega arith))
+inside : (l : tie.At-loop-i invariant-loop decreases-loop) → l.loop-i.i < l.args.count → l.loop-i.at < l.args.count * l.args.width
+inside l h = rw l.loop-i.invariant.2 (row_at l.args.count l.args.width l.args.g l.loop-i.i h (omega arith))
 
 -- and there are not many
-few : (l : tie.At-loop invariant-loop decreases-loop) → l.before.args.count * l.before.args.width ≤ 8 * 65536
-few l = mul_le_both l.before.args.count l.before.args.width 8 65536 (omega arith) (omega arith)
+few : (l : tie.At-loop-i invariant-loop decreases-loop) → l.args.count * l.args.width ≤ 8 * 65536
+few l = mul_le_both l.args.count l.args.width 8 65536 (omega arith) (omega arith)
 
-loop-again : tie.Need-loop-preserved invariant-loop decreases-loop
+loop-again : tie.Need-loop-i-preserved invariant-loop decreases-loop
 loop-again c =
     let l = c.before in
-    let a = l.before.args in (
-      given_more l.loop.invariant.0 (omega arith) l.loop.invariant.2 (omega (arith, inside l c.loop-test.true)) refl,
+    let a = l.args in (
+      given_more l.loop-i.invariant.0 (omega arith) l.loop-i.invariant.2 (omega (arith, inside l c.loop-i-test.true)) refl,
       omega arith,
-      omega (arith, line_next a.width l.loop.i),
+      omega (arith, line_next a.width l.loop-i.i),
     )
 
 returns : tie.Need-returns invariant-loop decreases-loop
 returns c =
     let l = c.before in
-    let all : l.loop.i ≡ l.before.args.count = omega arith in
-    given_end (rw all at l.loop.invariant.0) (omega arith) l.before.requires.1
+    let all : l.loop-i.i ≡ l.args.count = omega arith in
+    given_end (rw all at l.loop-i.invariant.0) (omega arith) l.requires.1
 
-pub give-word-spec : {M : Type 1} → statement M
-give-word-spec =
+pub give_word_spec : {M : Type 1} → statement M
+give_word_spec =
     tie.close
     (tie.spec
     invariant-loop
@@ -48,10 +48,10 @@ give-word-spec =
     (λ c. omega arith)
     (λ c. omega arith)
     (λ c. omega arith)
-    (λ c. let l = c.before in omega (arith, inside l c.loop-test.true, l.loop.invariant.0.long))
-    (λ c. let l = c.before in omega (arith, inside l c.loop-test.true, few l))
+    (λ c. let l = c.before in omega (arith, inside l c.loop-i-test.true, l.loop-i.invariant.0.long))
+    (λ c. let l = c.before in omega (arith, inside l c.loop-i-test.true, few l))
     (λ c. search rules)
     (λ c. search rules)
     loop-again
-    (λ c. c.before.loop.invariant.0.long)
+    (λ c. c.loop-i.invariant.0.long)
     returns)

@@ -5,13 +5,13 @@ use Rattle.words.specs.Code.{code_of}
 use Rattle.columns.proofs.rows.row_bytes.Statement.{statement}
 use Rattle.columns.proofs.rows.row_bytes.Tie as tie
 
-returns : tie.Need-returns
+returns : tie.Need-returns-then-mode-eq-CHOICES
 unfolding code_of
-returns c = record { is = simp (eq-eqb _ _ c.if1.true); low = omega arith; high = omega arith }
+returns c = record { is = simp (eq-eqb _ _ c.if-mode-eq-CHOICES.true); low = omega arith; high = omega arith }
 
-returns-2 : tie.Need-returns-2
+returns-2 : tie.Need-returns-else-mode-eq-CHOICES
 unfolding code_of
-returns-2 c = record { is = simp (ne_eqb _ _ c.if1.false); low = omega arith; high = omega arith }
+returns-2 c = record { is = simp (ne_eqb _ _ c.if-mode-eq-CHOICES.false); low = omega arith; high = omega arith }
 
-pub row-bytes-spec : {M : Type 1} → statement M
-row-bytes-spec = tie.close (tie.spec returns returns-2)
+pub row_bytes_spec : {M : Type 1} → statement M
+row_bytes_spec = tie.close (tie.spec returns returns-2)

@@ -9,9 +9,9 @@ use Rattle.columns.proofs.rows.turn.Tie as tie
 
 returns : tie.Need-returns
 returns c =
-    let w = c.before.before.before.args.w in
-    c.swap3.ensures
-    ∙ ap (swapped 0x00000000f0f0f0f0 28) (c.before.swap2.ensures ∙ ap (swapped 0x0000cccc0000cccc 14) c.before.before.swap.ensures)
+    let w = c.args.w in
+    c.swap.ensures
+    ∙ ap (swapped 0x00000000f0f0f0f0 28) (c.swap-pairs.ensures ∙ ap (swapped 0x0000cccc0000cccc 14) c.swap-singles.ensures)
     ∙ swapped-turned w (omega arith)
 
 pub turn_spec : {M : Type 1} → statement M

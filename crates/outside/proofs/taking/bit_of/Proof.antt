@@ -7,7 +7,7 @@ use Rattle.outside.proofs.taking.bit_of.Statement.{statement}
 use Rattle.outside.proofs.taking.bit_of.Tie as tie
 
 returns : tie.Need-returns
-returns c = ap (λ (x : ℕ). bit x (c.before.before.args.i % 8)) c.byte-or-zero.ensures
+returns c = ap (λ (x : ℕ). bit x (c.args.i % 8)) c.byte_or_zero.ensures
 
-pub bit-of-spec : {M : Type 1} → statement M
-bit-of-spec = tie.close (tie.spec (λ c κs. search rules) (λ c. search rules) (λ c. search rules) returns)
+pub bit_of_spec : {M : Type 1} → statement M
+bit_of_spec = tie.close (tie.spec (λ c κs. search rules) (λ c. search rules) (λ c. search rules) returns)

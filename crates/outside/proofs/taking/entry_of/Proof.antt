@@ -6,8 +6,8 @@ use native.Mathlib.Nat.{div-zero}
 use Rattle.outside.proofs.taking.entry_of.Statement.{statement}
 use Rattle.outside.proofs.taking.entry_of.Tie as tie
 
-returns : tie.Need-returns
-returns c = sym (ap (λ (w : ℕ). c.before.args.p / w) (search rules) ∙ div-zero c.before.args.p)
+returns : tie.Need-returns-then-width-eq0
+returns c = sym (ap (λ (w : ℕ). c.args.p / w) (search rules) ∙ div-zero c.args.p)
 
-pub entry-of-spec : {M : Type 1} → statement M
-entry-of-spec = tie.close (tie.spec (λ c. search rules) returns (λ c. search rules))
+pub entry_of_spec : {M : Type 1} → statement M
+entry_of_spec = tie.close (tie.spec (λ c. search rules) returns (λ c. search rules))

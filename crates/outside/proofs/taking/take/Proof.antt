@@ -8,18 +8,18 @@ use Rattle.outside.specs.Taken.{taken_byte, taken_set}
 use Rattle.outside.proofs.taking.take.Statement.{statement}
 use Rattle.outside.proofs.taking.take.Tie as tie
 
-abbrev invariant-loop : tie.invariant-loop
+abbrev invariant-loop : tie.invariant-loop-p
 invariant-loop width secret first second taken₀ p₀ taken p = Filled (taken_byte width secret first second) p taken₀ taken
 
-abbrev decreases-loop : tie.decreases-loop
+abbrev decreases-loop : tie.decreases-loop-p
 decreases-loop width secret first second taken₀ p₀ taken p = length taken₀ - p
 
-loop-again : tie.Need-loop-preserved invariant-loop decreases-loop
-loop-again c = filled_more c.before.before.loop.invariant (search rules) c.taken-byte.ensures
+loop-again : tie.Need-loop-p-preserved invariant-loop decreases-loop
+loop-again c = filled_more c.loop-p.invariant (search rules) c.taken_byte.ensures
 
 returns : tie.Need-returns invariant-loop decreases-loop
 unfolding taken_set
-returns c = filled_end c.before.loop.invariant refl (search rules)
+returns c = filled_end c.loop-p.invariant refl (search rules)
 
 pub take_spec : {M : Type 1} → statement M
 take_spec =
@@ -33,5 +33,5 @@ take_spec =
     (λ c. search rules)
     (λ c. search rules)
     loop-again
-    (λ c. c.before.loop.invariant.long)
+    (λ c. c.loop-p.invariant.long)
     returns)

@@ -4,18 +4,18 @@ use Rattle.outside.proofs.Taken.{taken_first, taken_second}
 use Rattle.outside.proofs.taking.taken_byte.Statement.{statement}
 use Rattle.outside.proofs.taking.taken_byte.Tie as tie
 
-returns : tie.Need-returns
+returns : tie.Need-returns-then-bit_of-eq0
 returns c =
-    let a = c.before.before.before.before.before.before.before.args in
-    taken_first a.width a.p a.secret.now a.first.now a.second.now c.before.before.before.entry_of.ensures c.before.before.bit-of.ensures c.before.if1.true c.byte-or-zero.ensures
+    let a = c.args in
+    taken_first a.width a.p a.secret.now a.first.now a.second.now c.entry_of.ensures c.bit_of.ensures c.if-bit_of-eq0.true c.byte_or_zero.ensures
 
-returns-2 : tie.Need-returns-2
+returns-2 : tie.Need-returns-else-bit_of-eq0
 returns-2 c =
-    let a = c.before.before.before.before.before.before.before.args in
-    taken_second a.width a.p a.secret.now a.first.now a.second.now c.before.before.before.entry_of.ensures c.before.before.bit-of.ensures c.before.if1.false c.byte-or-zero2.ensures
+    let a = c.args in
+    taken_second a.width a.p a.secret.now a.first.now a.second.now c.entry_of.ensures c.bit_of.ensures c.if-bit_of-eq0.false c.byte_or_zero-else-bit_of-eq0.ensures
 
-pub taken-byte-spec : {M : Type 1} → statement M
-taken-byte-spec =
+pub taken_byte_spec : {M : Type 1} → statement M
+taken_byte_spec =
     tie.close
     (tie.spec
     (λ c κs. search rules)

@@ -5,24 +5,24 @@ use borrow.Author.Rules.{rules}
 use Rattle.reading.proofs.walking.field_at.Statement.{statement}
 use Rattle.reading.proofs.walking.field_at.Tie as tie
 
-returns : tie.Need-returns
+returns : tie.Need-returns-then-place-eq-SHAPE_AT
 unfolding field_at
-returns c = simp (eq-eqb c.before.before.before.args.c.place 0 c.before.if1.true, c.shape-in.ensures)
+returns c = simp (eq-eqb c.args.c.place 0 c.if-place-eq-SHAPE_AT.true, c.shape_in-shape.ensures)
 
-returns-2 : tie.Need-returns-2
+returns-2 : tie.Need-returns-then-place-eq-SESSION_AT
 unfolding field_at
-returns-2 c = simp c.if2.true
+returns-2 c = simp c.if-place-eq-SESSION_AT.true
 
-returns-3 : tie.Need-returns-3
+returns-3 : tie.Need-returns-then-place-eq-BLOCK_HEADER_AT
 unfolding field_at
-returns-3 c = simp (c.before.before.if3.true, c.block-length.ensures.0, c.before.byte-or-zero.ensures)
+returns-3 c = simp (c.if-place-eq-BLOCK_HEADER_AT.true, c.block_length-len.ensures.0, c.byte_or_zero-tag.ensures)
 
-returns-4 : tie.Need-returns-4
+returns-4 : tie.Need-returns
 unfolding field_at
-returns-4 c = simp (ne_eqb c.before.before.before.before.before.args.c.place 0 c.before.before.before.if1.false, ne_eqb c.before.before.before.before.before.args.c.place 9 c.before.if2.false, ne_eqb c.before.before.before.before.before.args.c.place 24 c.if3.false)
+returns-4 c = simp (ne_eqb c.args.c.place 0 c.if-place-eq-SHAPE_AT.false, ne_eqb c.args.c.place 9 c.if-place-eq-SESSION_AT.false, ne_eqb c.args.c.place 24 c.if-place-eq-BLOCK_HEADER_AT.false)
 
-pub field-at-spec : {M : Type 1} → statement M
-field-at-spec =
+pub field_at_spec : {M : Type 1} → statement M
+field_at_spec =
     tie.close
     (tie.spec
     (λ c κs. search rules)

@@ -4,14 +4,14 @@ use borrow.Author.Rules.{rules}
 use Rattle.reading.proofs.walking.has_block.Statement.{statement}
 use Rattle.reading.proofs.walking.has_block.Tie as tie
 
-returns : tie.Need-returns
-returns c = block_there _ _ c.before.before.before.before.byte-or-zero.ensures _ c.before.before.before.is-block-tag.ensures c.before.before.if1.true c.before.block-length.ensures.0 c.has-header.ensures
+returns : tie.Need-returns-then-is_block_tag
+returns c = block_there _ _ c.byte_or_zero-tag.ensures _ c.is_block_tag.ensures c.if-is_block_tag.true c.block_length.ensures.0 c.has_header.ensures
 
-returns-2 : tie.Need-returns-2
-returns-2 c = block_not _ _ c.before.before.byte-or-zero.ensures c.before.is-block-tag.ensures c.if1.false
+returns-2 : tie.Need-returns-else-is_block_tag
+returns-2 c = block_not _ _ c.byte_or_zero-tag.ensures c.is_block_tag.ensures c.if-is_block_tag.false
 
-pub has-block-spec : {M : Type 1} → statement M
-has-block-spec =
+pub has_block_spec : {M : Type 1} → statement M
+has_block_spec =
     tie.close
     (tie.spec
     (λ c κs. search rules)

@@ -4,10 +4,10 @@ use Rattle.reading.proofs.walking.judge_first.Statement.{statement}
 use Rattle.reading.proofs.walking.judge_first.Tie as tie
 
 returns : tie.Need-returns
-returns c = rw (c.refuse-unless.ensures, c.before.before.before.has-header.ensures, c.before.judge-shape.ensures, c.before.before.shape-in.ensures)
+returns c = rw (c.refuse_unless.ensures, c.has_header.ensures, c.judge_shape.ensures, c.shape_in.ensures)
 
-pub judge-first-spec : {M : Type 1} → statement M
-judge-first-spec =
+pub judge_first_spec : {M : Type 1} → statement M
+judge_first_spec =
     tie.close
     (tie.spec
     (λ c κs. search rules)

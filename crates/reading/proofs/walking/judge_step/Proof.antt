@@ -5,24 +5,24 @@ use borrow.Author.Rules.{rules}
 use Rattle.reading.proofs.walking.judge_step.Statement.{statement}
 use Rattle.reading.proofs.walking.judge_step.Tie as tie
 
-returns : tie.Need-returns
+returns : tie.Need-returns-then-place-eq-SHAPE_AT
 unfolding step_verdict
-returns c = simp (eq-eqb c.before.before.before.args.c.place 0 c.before.if1.true) c.judge-first.ensures
+returns c = simp (eq-eqb c.args.c.place 0 c.if-place-eq-SHAPE_AT.true) c.judge_first.ensures
 
-returns-2 : tie.Need-returns-2
+returns-2 : tie.Need-returns-then-place-eq-SESSION_AT
 unfolding step_verdict
-returns-2 c = simp c.before.before.if2.true (rw (c.refuse-unless.ensures, c.before.has-header.ensures))
+returns-2 c = simp c.if-place-eq-SESSION_AT.true (rw (c.refuse_unless.ensures, c.has_header.ensures))
 
-returns-3 : tie.Need-returns-3
+returns-3 : tie.Need-returns-then-place-eq-BLOCK_HEADER_AT
 unfolding step_verdict
-returns-3 c = simp c.before.before.if3.true (rw (c.refuse-unless2.ensures, c.before.has_block.ensures))
+returns-3 c = simp c.if-place-eq-BLOCK_HEADER_AT.true (rw (c.refuse_unless-then-place-eq-BLOCK_HEADER_AT.ensures, c.has_block.ensures))
 
-returns-4 : tie.Need-returns-4
+returns-4 : tie.Need-returns
 unfolding step_verdict
-returns-4 c = simp (ne_eqb c.before.before.before.before.before.before.args.c.place 0 c.before.before.before.before.if1.false, ne_eqb c.before.before.before.before.before.before.args.c.place 9 c.before.before.before.if2.false, ne_eqb c.before.before.before.before.before.before.args.c.place 24 c.before.if3.false) c.refuse-unless3.ensures
+returns-4 c = simp (ne_eqb c.args.c.place 0 c.if-place-eq-SHAPE_AT.false, ne_eqb c.args.c.place 9 c.if-place-eq-SESSION_AT.false, ne_eqb c.args.c.place 24 c.if-place-eq-BLOCK_HEADER_AT.false) c.refuse_unless-2.ensures
 
-pub judge-step-spec : {M : Type 1} → statement M
-judge-step-spec =
+pub judge_step_spec : {M : Type 1} → statement M
+judge_step_spec =
     tie.close
     (tie.spec
     (λ c κs. search rules)

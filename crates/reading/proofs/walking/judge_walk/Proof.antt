@@ -6,10 +6,10 @@ use Rattle.reading.proofs.walking.judge_walk.Tie as tie
 
 returns : tie.Need-returns
 unfolding steps_verdict
-returns c = rw (c.or-else3.ensures, c.before.judge-step4.ensures, c.before.before.start.ensures, c.before.before.before.or-else2.ensures, c.before.before.before.before.judge-step3.ensures, c.before.before.before.before.before.or_else.ensures, c.before.before.before.before.before.before.judge-step2.ensures, c.before.before.before.before.before.before.before.judge-step.ensures)
+returns c = rw (c.or_else.ensures, c.judge_step-3.ensures, c.start.ensures, c.or_else-v2.ensures, c.judge_step-2.ensures, c.or_else-v3.ensures, c.judge_step.ensures, c.judge_step-v4.ensures)
 
-pub judge-walk-spec : {M : Type 1} → statement M
-judge-walk-spec =
+pub judge_walk_spec : {M : Type 1} → statement M
+judge_walk_spec =
     tie.close
     (tie.spec
     (λ c. search rules)

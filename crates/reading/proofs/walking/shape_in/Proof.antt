@@ -6,10 +6,10 @@ use Rattle.reading.proofs.walking.shape_in.Tie as tie
 
 returns : tie.Need-returns
 unfolding shape_in
-returns c = rw (c.before.number2.ensures, c.before.before.before.before.number.ensures, c.byte-or-zero6.ensures, c.before.before.byte-or-zero5.ensures, c.before.before.before.byte-or-zero4.ensures, c.before.before.before.before.before.byte-or-zero3.ensures, c.before.before.before.before.before.before.byte-or-zero2.ensures, c.before.before.before.before.before.before.before.byte-or-zero.ensures)
+returns c = rw (c.number-2.ensures, c.number.ensures, c.byte_or_zero-6.ensures, c.byte_or_zero-5.ensures, c.byte_or_zero-4.ensures, c.byte_or_zero-3.ensures, c.byte_or_zero-2.ensures, c.byte_or_zero.ensures)
 
-pub shape-in-spec : {M : Type 1} → statement M
-shape-in-spec =
+pub shape_in_spec : {M : Type 1} → statement M
+shape_in_spec =
     tie.close
     (tie.spec
     (λ c κs. search rules)

@@ -4,14 +4,14 @@ use borrow.Author.Rules.{rules}
 use Rattle.reading.proofs.walking.step_at.Statement.{statement}
 use Rattle.reading.proofs.walking.step_at.Tie as tie
 
-returns : tie.Need-returns
-returns c = stepped_refused _ _ c.before.before.judge-step.ensures c.if1.true
+returns : tie.Need-returns-then-v-ne0
+returns c = stepped_refused _ _ c.judge_step-v.ensures c.if-v-ne0.true
 
-returns-2 : tie.Need-returns-2
-returns-2 c = stepped_field _ _ c.before.before.before.judge-step.ensures c.before.if1.false c.field_at.ensures
+returns-2 : tie.Need-returns
+returns-2 c = stepped_field _ _ c.judge_step-v.ensures c.if-v-ne0.false c.field_at.ensures
 
-pub step-at-spec : {M : Type 1} → statement M
-step-at-spec =
+pub step_at_spec : {M : Type 1} → statement M
+step_at_spec =
     tie.close
     (tie.spec
     (λ c κs. search rules)

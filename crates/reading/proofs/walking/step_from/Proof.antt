@@ -6,10 +6,10 @@ use Rattle.reading.proofs.walking.step_from.Tie as tie
 
 returns : tie.Need-returns
 unfolding advanced
-returns c = rw (c.before.moved_by.ensures, c.before.before.step-at.ensures.answers)
+returns c = rw (c.moved_by-next.ensures, c.step_at-step.ensures.answers)
 
-pub step-from-spec : {M : Type 1} → statement M
-step-from-spec =
+pub step_from_spec : {M : Type 1} → statement M
+step_from_spec =
     tie.close
     (tie.spec
     (λ c κs. search rules)

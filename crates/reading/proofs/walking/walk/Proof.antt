@@ -6,10 +6,10 @@ use Rattle.reading.proofs.walking.walk.Tie as tie
 
 returns : tie.Need-returns
 unfolding walked
-returns c = rw (c.judge-walk.ensures, c.before.block-length.ensures.0, c.before.before.byte-or-zero.ensures, c.before.before.before.shape-in.ensures)
+returns c = rw (c.judge_walk-verdict.ensures, c.block_length-len.ensures.0, c.byte_or_zero-tag.ensures, c.shape_in-shape.ensures)
 
-pub walk-spec : {M : Type 1} → statement M
-walk-spec =
+pub walk_spec : {M : Type 1} → statement M
+walk_spec =
     tie.close
     (tie.spec
     (λ c κs. search rules)
