@@ -9,7 +9,7 @@ mod row;
 mod running;
 mod show;
 
-use libc::STDIN_FILENO;
+const STDIN_FILENO: i32 = 0;
 
 const LINE_BYTES: usize = 127;
 

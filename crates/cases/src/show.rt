@@ -1,6 +1,7 @@
 // The words and numbers of a line.
 use basics::Verdict;
-use libc::STDOUT_FILENO;
+
+const STDOUT_FILENO: i32 = 1;
 
 pub(crate) fn text(s: &[u8]) {
     io::write_all(STDOUT_FILENO, s);

@@ -1,7 +1,9 @@
 // Reads a message on standard input, at most one byte more than the longest, and prints its listing.
 #![tactic(auto)]
 
-use libc::{STDIN_FILENO, STDOUT_FILENO};
+const STDIN_FILENO: i32 = 0;
+
+const STDOUT_FILENO: i32 = 1;
 
 fn main() {
     let mut buffer = [0u8; 32796];

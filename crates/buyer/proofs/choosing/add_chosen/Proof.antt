@@ -11,45 +11,45 @@ use Rattle.buyer.proofs.Chosen.{Below, below_none, below_more, below_end, chosen
 use Rattle.buyer.proofs.choosing.add_chosen.Statement.{statement}
 use Rattle.buyer.proofs.choosing.add_chosen.Tie as tie
 
-abbrev invariant-loop : tie.invariant-loop
+abbrev invariant-loop : tie.invariant-loop-b
 invariant-loop mode rows selections block₀ c b₀ block b = (Below (chosen (code_of mode) rows selections) (col_bytes rows) b block₀ block) × (b ≤ c)
 
-abbrev decreases-loop : tie.decreases-loop
+abbrev decreases-loop : tie.decreases-loop-b
 decreases-loop mode rows selections block₀ c b₀ block b = c - b
 
-add-eight-requires : tie.Need-add-eight-requires invariant-loop decreases-loop
+add-eight-requires : tie.Need-add_eight-requires invariant-loop decreases-loop
 add-eight-requires c κs =
-    let l = c.before.before in
-    let s = l.before.before.before.before in
-    let e = l.before.column-bytes.ensures in (
-      c.before.loop-test.true,
+    let l = c in
+    let s = l in
+    let e = l.column_bytes-c.ensures in (
+      c.loop-b-test.true,
       omega (arith, e),
-      l.loop.invariant.0.long ∙ s.requires.1 ∙ ap (λ (x : ℕ). k (code_of s.args.mode) * x) (sym e),
+      l.loop-b.invariant.0.long ∙ s.requires.1 ∙ ap (λ (x : ℕ). k (code_of s.args.mode) * x) (sym e),
     )
 
-add-b : tie.Need-overflow-add-b invariant-loop decreases-loop
+add-b : tie.Need-overflow_add-b invariant-loop decreases-loop
 add-b c = search rules
 
-loop-again : tie.Need-loop-preserved invariant-loop decreases-loop
+loop-again : tie.Need-loop-b-preserved invariant-loop decreases-loop
 loop-again c =
-    let l = c.before.before.before.before.before in
-    let s = l.before.before.before.before in
+    let l = c in
+    let s = l in
     let a = s.args in
-    let f : ℕ → ℕ = place_byte (code_of a.mode) a.selections.now (l.loop.b * 8) in (
-      below_more f l.loop.invariant.0
-          (c.before.before.add_eight.ensures ∙ ap (λ (x : ℕ). added_bytes x l.loop.b f l.loop.block) l.before.column-bytes.ensures)
-          (λ p h e. chosen_at a.mode a.rows a.selections.now s.requires.0 l.loop.b p (omega (arith, s.requires.1)) e),
+    let f : ℕ → ℕ = place_byte (code_of a.mode) a.selections.now (l.loop-b.b * 8) in (
+      below_more f l.loop-b.invariant.0
+          (c.add_eight.ensures ∙ ap (λ (x : ℕ). added_bytes x l.loop-b.b f l.loop-b.block) l.column_bytes-c.ensures)
+          (λ p h e. chosen_at a.mode a.rows a.selections.now s.requires.0 l.loop-b.b p (omega (arith, s.requires.1)) e),
       omega arith,
     )
 
 returns : tie.Need-returns invariant-loop decreases-loop
 returns c =
-    let l = c.before in
-    let s = l.before.before.before.before in
-    below_end (k (code_of s.args.mode)) l.loop.invariant.0 (omega (arith, l.before.column-bytes.ensures)) s.requires.1
+    let l = c in
+    let s = l in
+    below_end (k (code_of s.args.mode)) l.loop-b.invariant.0 (omega (arith, l.column_bytes-c.ensures)) s.requires.1
 
-pub add-chosen-spec : {M : Type 1} → statement M
-add-chosen-spec =
+pub add_chosen_spec : {M : Type 1} → statement M
+add_chosen_spec =
     tie.close
     (tie.spec
     invariant-loop
@@ -60,5 +60,5 @@ add-chosen-spec =
     add-b
     (λ c. search rules)
     loop-again
-    (λ c. c.before.loop.invariant.0.long)
+    (λ c. c.loop-b.invariant.0.long)
     returns)

@@ -10,28 +10,28 @@ use Rattle.columns.proofs.Sizes.{k_of_lem}
 use Rattle.buyer.proofs.choosing.add_eight.Statement.{statement}
 use Rattle.buyer.proofs.choosing.add_eight.Tie as tie
 
-add-table-requires : tie.Need-add-table-requires
+add-table-requires : tie.Need-add_table-requires
 add-table-requires c κs =
-    let s = c.before.before.before.before.before.before.before.before in
-    let n = c.before.before.columns_of in (
+    let s = c in
+    let n = c.columns_of in (
       s.requires.0,
       s.requires.1,
       n.ensures.high,
-      omega (arith, n.ensures.high, c.before.before.before.before.fill-table.ensures.long),
+      omega (arith, n.ensures.high, c.fill_table.ensures.long),
       s.requires.2 ∙ sym (ap (λ (x : ℕ). x * s.args.c) (n.ensures.is ∙ k_of_lem s.args.mode)),
     )
 
 returns : tie.Need-returns
 returns c =
-    let s = c.before.before.before.before.before.before.before.before.before.before.before in
+    let s = c in
     let a = s.args in
-    let f = c.before.before.before.before.before.before.before.fill-table in
-    c.before.before.add-table.ensures
+    let f = c.fill_table in
+    c.add_table.ensures
     ∙ added_ext a.c a.b (k (code_of a.mode)) _ (place_byte (code_of a.mode) a.selections.now (a.b * 8)) a.block.now s.requires.2
     (begins_at f.ensures)
 
-pub add-eight-spec : {M : Type 1} → statement M
-add-eight-spec =
+pub add_eight_spec : {M : Type 1} → statement M
+add_eight_spec =
     tie.close
     (tie.spec
     (λ c. search rules)

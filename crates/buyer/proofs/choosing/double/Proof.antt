@@ -12,26 +12,26 @@ use Rattle.buyer.proofs.Chosen.{place_turned, filled_front, filled_step, front_f
 use Rattle.buyer.proofs.choosing.double.Statement.{statement}
 use Rattle.buyer.proofs.choosing.double.Tie as tie
 
-abbrev invariant-loop : tie.invariant-loop
+abbrev invariant-loop : tie.invariant-loop-x
 invariant-loop mode selections j t table₀ half turn x₀ table x =
     (Filled (place_byte (code_of mode) selections j) (half + x) table₀ table) × (x ≤ half) × (half ≡ 2 ^ t) × (half ≤ 128)
     × (turn ≡ bit_xor (place_byte (code_of mode) selections j (2 ^ t)) (place_byte (code_of mode) selections j 0))
 
-abbrev decreases-loop : tie.decreases-loop
+abbrev decreases-loop : tie.decreases-loop-x
 decreases-loop mode selections j t table₀ half turn x₀ table x = half - x
 
-shl-half : tie.Need-overflow-shl-half invariant-loop decreases-loop
+shl-half : tie.Need-overflow_shl-half invariant-loop decreases-loop
 shl-half c = search rules
 
 places-requires : tie.Need-places-requires invariant-loop decreases-loop
-places-requires c κs = let s = c.before.before in (rw (half_is s.args.t s.requires.0).0 s.requires.1, s.requires.2)
+places-requires c κs = let s = c in (rw (half_is s.args.t s.requires.0).0 s.requires.1, s.requires.2)
 
-slice-read-turn : tie.Need-slice-read-turn invariant-loop decreases-loop
+slice-read-turn : tie.Need-bounds-table-0 invariant-loop decreases-loop
 slice-read-turn c = search rules
 
-loop-holds : tie.Need-loop-init invariant-loop decreases-loop
+loop-holds : tie.Need-loop-x-init invariant-loop decreases-loop
 loop-holds c =
-    let s = c.before.before.before.before in
+    let s = c in
     let a = s.args in
     let f = place_byte (code_of a.mode) a.selections.now a.j in
     let (is, few) = half_is a.t s.requires.0 in
@@ -40,49 +40,49 @@ loop-holds c =
       omega arith,
       is,
       omega arith,
-      ap₂ bit_xor (c.before.places.ensures ∙ ap f is) (filled_new front 0 (pow_pos a.t)),
+      ap₂ bit_xor (c.places.ensures ∙ ap f is) (filled_new front 0 (pow_pos a.t)),
     )
 
-slice-read-table : tie.Need-slice-read-table invariant-loop decreases-loop
+slice-read-table : tie.Need-bounds-table-x invariant-loop decreases-loop
 slice-read-table c = search rules
 
-add-table : tie.Need-overflow-add-table invariant-loop decreases-loop
+add-table : tie.Need-overflow_add-table invariant-loop decreases-loop
 add-table c = search rules
 
-slice-write-table : tie.Need-slice-write-table invariant-loop decreases-loop
+slice-write-table : tie.Need-bounds-table-half invariant-loop decreases-loop
 slice-write-table c = search rules
 
-add-x : tie.Need-overflow-add-x invariant-loop decreases-loop
+add-x : tie.Need-overflow_add-x invariant-loop decreases-loop
 add-x c = search rules
 
-loop-less : tie.Need-loop-smaller invariant-loop decreases-loop
+loop-less : tie.Need-loop-x-smaller invariant-loop decreases-loop
 loop-less c = search rules
 
-loop-again : tie.Need-loop-preserved invariant-loop decreases-loop
+loop-again : tie.Need-loop-x-preserved invariant-loop decreases-loop
 loop-again c =
-    let l = c.before.before in
-    let s = l.before.before.before.before.before in
+    let l = c in
+    let s = l in
     let a = s.args in
     let f = place_byte (code_of a.mode) a.selections.now a.j in (
-      filled_step l.loop.invariant.0 (omega arith) (omega (arith, s.requires.3.long))
-          (ap₂ bit_xor (filled_new l.loop.invariant.0 l.loop.x (omega arith)) l.loop.invariant.4
-          ∙ sym (ap (λ (h : ℕ). f (h + l.loop.x)) l.loop.invariant.2 ∙ place_turned a.mode a.selections.now a.j a.t l.loop.x (omega arith))),
+      filled_step l.loop-x.invariant.0 (omega arith) (omega (arith, s.requires.3.long))
+          (ap₂ bit_xor (filled_new l.loop-x.invariant.0 l.loop-x.x (omega arith)) l.loop-x.invariant.4
+          ∙ sym (ap (λ (h : ℕ). f (h + l.loop-x.x)) l.loop-x.invariant.2 ∙ place_turned a.mode a.selections.now a.j a.t l.loop-x.x (omega arith))),
       omega arith,
-      l.loop.invariant.2,
-      l.loop.invariant.3,
-      l.loop.invariant.4,
+      l.loop-x.invariant.2,
+      l.loop-x.invariant.3,
+      l.loop-x.invariant.4,
     )
 
-same_length : tie.Need-same-length invariant-loop decreases-loop
-same_length c = c.before.loop.invariant.0.long
+same_length : tie.Need-shape_of-table invariant-loop decreases-loop
+same_length c = c.loop-x.invariant.0.long
 
 returns : tie.Need-returns invariant-loop decreases-loop
 returns c =
-    let l = c.before in
-    record { long = l.loop.invariant.0.long ∙ l.before.before.before.before.before.requires.3.long; front = front_filled l.loop.invariant.0 (omega arith) }
+    let l = c in
+    record { long = l.loop-x.invariant.0.long ∙ l.requires.3.long; front = front_filled l.loop-x.invariant.0 (omega arith) }
 
-pub double-spec : {M : Type 1} → statement M
-double-spec =
+pub double_spec : {M : Type 1} → statement M
+double_spec =
     tie.close
     (tie.spec
     invariant-loop

@@ -10,44 +10,44 @@ use Rattle.buyer.proofs.Chosen.{begins_one, begins_twice}
 use Rattle.buyer.proofs.choosing.fill_table.Statement.{statement}
 use Rattle.buyer.proofs.choosing.fill_table.Tie as tie
 
-abbrev invariant-loop : tie.invariant-loop
+abbrev invariant-loop : tie.invariant-loop-t
 invariant-loop mode selections j table₀ most t₀ table t = (Begins (code_of mode) selections j (2 ^ t) table) × (t ≤ most)
 
-abbrev decreases-loop : tie.decreases-loop
+abbrev decreases-loop : tie.decreases-loop-t
 decreases-loop mode selections j table₀ most t₀ table t = most - t
 
 places-requires : tie.Need-places-requires invariant-loop decreases-loop
-places-requires c κs = (rw (sym c.doublings.ensures.0) (pow_pos c.doublings.result), c.before.before.before.requires.0)
+places-requires c κs = (rw (sym c.doublings-most.ensures.0) (pow_pos c.doublings-most.result), c.requires.0)
 
-loop-holds : tie.Need-loop-init invariant-loop decreases-loop
-loop-holds c = let s = c.before.before.before.before in (begins_one (code_of s.args.mode) s.args.selections.now s.args.j _ s.args.table.now s.requires.1 c.places.ensures, omega arith)
+loop-holds : tie.Need-loop-t-init invariant-loop decreases-loop
+loop-holds c = let s = c in (begins_one (code_of s.args.mode) s.args.selections.now s.args.j _ s.args.table.now s.requires.1 c.places.ensures, omega arith)
 
 double-requires : tie.Need-double-requires invariant-loop decreases-loop
 double-requires c κs =
-    let l = c.before.before in
-    let d = l.before.before.doublings in (
+    let l = c in
+    let d = l.doublings-most in (
       omega (arith, d.ensures.1),
-      rw (sym d.ensures.0) (pow-lt c.before.loop-test.true),
-      l.before.before.before.before.before.requires.0,
-      l.loop.invariant.0,
+      rw (sym d.ensures.0) (pow-lt c.loop-t-test.true),
+      l.requires.0,
+      l.loop-t.invariant.0,
     )
 
-loop-again : tie.Need-loop-preserved invariant-loop decreases-loop
-loop-again c = let l = c.before.before.before.before.before in (begins_twice l.loop.t c.before.before.double.ensures, omega arith)
+loop-again : tie.Need-loop-t-preserved invariant-loop decreases-loop
+loop-again c = let l = c in (begins_twice l.loop-t.t c.double.ensures, omega arith)
 
-same_length : tie.Need-same-length invariant-loop decreases-loop
-same_length c = c.before.loop.invariant.0.long ∙ sym c.before.before.before.before.before.before.requires.1
+same_length : tie.Need-shape_of-table invariant-loop decreases-loop
+same_length c = c.loop-t.invariant.0.long ∙ sym c.requires.1
 
 returns : tie.Need-returns invariant-loop decreases-loop
 returns c =
-    let l = c.before in
-    let d = l.before.before.doublings in
-    let all : l.loop.t ≡ d.result = omega arith in
-    let whole : 2 ^ l.loop.t ≡ k (code_of l.before.before.before.before.before.args.mode) = ap (λ (x : ℕ). 2 ^ x) all ∙ d.ensures.0 in
-    rw whole at l.loop.invariant.0
+    let l = c in
+    let d = l.doublings-most in
+    let all : l.loop-t.t ≡ d.result = omega arith in
+    let whole : 2 ^ l.loop-t.t ≡ k (code_of l.args.mode) = ap (λ (x : ℕ). 2 ^ x) all ∙ d.ensures.0 in
+    rw whole at l.loop-t.invariant.0
 
-pub fill-table-spec : {M : Type 1} → statement M
-fill-table-spec =
+pub fill_table_spec : {M : Type 1} → statement M
+fill_table_spec =
     tie.close
     (tie.spec
     invariant-loop

@@ -11,10 +11,10 @@ use Rattle.buyer.proofs.choosing.place_of.Tie as tie
 
 returns : tie.Need-returns
 returns c =
-    let a = c.before.args in (
-      ap (λ (b : ℕ). bit b (a.i % 8)) c.selected_byte.ensures ∙ word_place (code_of a.mode) a.r a.i c.before.requires,
+    let a = c.args in (
+      ap (λ (b : ℕ). bit b (a.i % 8)) c.selected_byte.ensures ∙ word_place (code_of a.mode) a.r a.i c.requires,
       bit_small c.selected_byte.result (a.i % 8),
     )
 
-pub place-of-spec : {M : Type 1} → statement M
-place-of-spec = tie.close (tie.spec (λ c κs. search rules) (λ c. search rules) (λ c. search rules) returns)
+pub place_of_spec : {M : Type 1} → statement M
+place_of_spec = tie.close (tie.spec (λ c κs. search rules) (λ c. search rules) (λ c. search rules) returns)

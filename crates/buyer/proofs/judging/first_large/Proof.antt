@@ -9,35 +9,35 @@ use Rattle.buyer.specs.Selections.{too_large}
 use Rattle.buyer.proofs.judging.first_large.Statement.{statement}
 use Rattle.buyer.proofs.judging.first_large.Tie as tie
 
-abbrev invariant-loop : tie.invariant-loop
+abbrev invariant-loop : tie.invariant-loop-j
 invariant-loop m n selections j₀ j = Passed (too_large n selections) j m
 
-abbrev decreases-loop : tie.decreases-loop
+abbrev decreases-loop : tie.decreases-loop-j
 decreases-loop m n selections j₀ j = m - j
 
-loop-again : tie.Need-loop-preserved invariant-loop decreases-loop
+loop-again : tie.Need-loop-j-preserved invariant-loop decreases-loop
 unfolding too_large
-loop-again c = passed_more c.before.before.before.loop.invariant (search rules) (lt-leb _ _ c.if2.false)
+loop-again c = passed_more c.loop-j.invariant (search rules) (lt-leb _ _ c.if-n-selections.false)
 
-returns : tie.Need-returns invariant-loop decreases-loop
+returns : tie.Need-returns-then-m-j invariant-loop decreases-loop
 returns c =
-    let l = c.before in
-    let all : l.before.args.m ≡ l.loop.j = omega (arith, l.loop.invariant.within) in
-    all ∙ passed_end l.loop.invariant (search rules)
+    let l = c in
+    let all : l.args.m ≡ l.loop-j.j = omega (arith, l.loop-j.invariant.within) in
+    all ∙ passed_end l.loop-j.invariant (search rules)
 
-returns-2 : tie.Need-returns-2 invariant-loop decreases-loop
+returns-2 : tie.Need-returns-then-n-selections invariant-loop decreases-loop
 unfolding too_large
-returns-2 c = passed_here c.before.before.before.loop.invariant (le-leb _ _ c.if2.true)
+returns-2 c = passed_here c.loop-j.invariant (le-leb _ _ c.if-n-selections.true)
 
-pub first-large-spec : {M : Type 1} → statement M
-first-large-spec =
+pub first_large_spec : {M : Type 1} → statement M
+first_large_spec =
     tie.close
     (tie.spec
     invariant-loop
     decreases-loop
     (λ c. passed_none _ _)
     (λ c. search rules)
-    (λ c. omega (arith, c.shared-slice-known.given c.before.before.loop.j))
+    (λ c. omega (arith, c.shared_slice_known-1.given c.loop-j.j))
     (λ c. search rules)
     (λ c. search rules)
     loop-again

@@ -7,47 +7,47 @@ use Rattle.buyer.specs.Prepare.{prepare_lengths}
 use Rattle.buyer.proofs.judging.judge_lengths.Statement.{statement}
 use Rattle.buyer.proofs.judging.judge_lengths.Tie as tie
 
-mul-set : tie.Need-overflow-mul-set
-mul-set c = omega (arith, mul_le_both c.before.columns_of.result c.entry-bytes.result 256 8192 c.before.columns_of.ensures.high c.entry-bytes.ensures.1)
+mul-set : tie.Need-overflow_mul-set
+mul-set c = omega (arith, mul_le_both c.columns_of-k.result c.entry_bytes.result 256 8192 c.columns_of-k.ensures.high c.entry_bytes.ensures.1)
 
-mul-block : tie.Need-overflow-mul-block
+mul-block : tie.Need-overflow_mul-block
 mul-block c =
     omega (
       arith,
-      mul_le_both c.before.before.columns_of.result c.column-bytes.result 256 8192 c.before.before.columns_of.ensures.high
-          (omega (arith, c.column-bytes.ensures)),
+      mul_le_both c.columns_of-k.result c.column_bytes.result 256 8192 c.columns_of-k.ensures.high
+          (omega (arith, c.column_bytes.ensures)),
     )
 
-mul-refuse-unless : tie.Need-overflow-mul-refuse-unless
+mul-refuse-unless : tie.Need-overflow_mul-m
 mul-refuse-unless c =
-    let m = c.before.before.before.before.args.s.rows in
-    let k = c.before.before.before.columns_of in
+    let m = c.args.s.rows in
+    let k = c.columns_of-k in
     omega (arith, mul_le_both m (k.result / 8) 65535 32 (omega arith) (omega (arith, k.ensures.high)))
 
-add-refuse-unless : tie.Need-overflow-add-refuse-unless
+add-refuse-unless : tie.Need-overflow_add-block
 add-refuse-unless c =
-    let k = c.before.before.before.before.columns_of in
-    let b = c.before.before.column-bytes in
+    let k = c.columns_of-k in
+    let b = c.column_bytes in
     omega (arith, mul_le_both k.result b.result 256 8192 k.ensures.high (omega (arith, b.ensures)))
 
 returns : tie.Need-returns
 unfolding prepare_lengths
 returns c =
-    let sizes = c.before.before.before.before.before.before.before in
+    let sizes = c in
     rw (
-      c.refuse-unless6.ensures,
-      c.before.refuse-unless5.ensures,
-      c.before.before.refuse-unless4.ensures,
-      c.before.before.before.refuse-unless3.ensures,
-      c.before.before.before.before.refuse-unless2.ensures,
-      c.before.before.before.before.before.refuse-unless.ensures,
-      sizes.column-bytes.ensures,
-      sizes.before.entry-bytes.ensures.0,
-      sizes.before.before.columns_of.ensures.is,
+      c.refuse_unless.ensures,
+      c.refuse_unless-v2.ensures,
+      c.refuse_unless-v3.ensures,
+      c.refuse_unless-v4.ensures,
+      c.refuse_unless-v5.ensures,
+      c.refuse_unless-v6.ensures,
+      sizes.column_bytes.ensures,
+      sizes.entry_bytes.ensures.0,
+      sizes.columns_of-k.ensures.is,
     )
 
-pub judge-lengths-spec : {M : Type 1} → statement M
-judge-lengths-spec =
+pub judge_lengths_spec : {M : Type 1} → statement M
+judge_lengths_spec =
     tie.close
     (tie.spec
     (λ c κs. search rules)

@@ -7,29 +7,29 @@ use Rattle.buyer.specs.Open.{open_lengths}
 use Rattle.buyer.proofs.judging.judge_open_lengths.Statement.{statement}
 use Rattle.buyer.proofs.judging.judge_open_lengths.Tie as tie
 
-mul-refuse-unless : tie.Need-overflow-mul-refuse-unless
+mul-refuse-unless : tie.Need-overflow_mul-m
 mul-refuse-unless c =
-    let s = c.before.before.args.s in
+    let s = c.args.s in
     omega (arith, mul_le_both s.rows s.bytes 65535 255 (omega arith) (omega arith))
 
-mul-refuse-unless-2 : tie.Need-overflow-mul-refuse-unless-2
+mul-refuse-unless-2 : tie.Need-overflow_mul-m-2
 mul-refuse-unless-2 c =
     let k = c.columns_of in
-    omega (arith, mul_le_both c.before.before.before.before.args.s.rows (k.result / 8) 65535 32 (omega arith) (omega (arith, k.ensures.high)))
+    omega (arith, mul_le_both c.args.s.rows (k.result / 8) 65535 32 (omega arith) (omega (arith, k.ensures.high)))
 
 returns : tie.Need-returns
 unfolding open_lengths
 returns c =
     rw (
-      c.refuse-unless4.ensures,
-      c.before.refuse-unless3.ensures,
-      c.before.before.refuse-unless2.ensures,
-      c.before.before.before.columns_of.ensures.is,
-      c.before.before.before.before.refuse-unless.ensures,
+      c.refuse_unless.ensures,
+      c.refuse_unless-v2.ensures,
+      c.refuse_unless-v3.ensures,
+      c.columns_of.ensures.is,
+      c.refuse_unless-v4.ensures,
     )
 
-pub judge-open-lengths-spec : {M : Type 1} → statement M
-judge-open-lengths-spec =
+pub judge_open_lengths_spec : {M : Type 1} → statement M
+judge_open_lengths_spec =
     tie.close
     (tie.spec
     (λ c. search rules)

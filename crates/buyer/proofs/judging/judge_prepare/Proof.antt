@@ -6,39 +6,39 @@ use Rattle.buyer.proofs.Judged.{lengths_passed}
 use Rattle.buyer.proofs.judging.judge_prepare.Statement.{statement}
 use Rattle.buyer.proofs.judging.judge_prepare.Tie as tie
 
-returns : tie.Need-returns
+returns : tie.Need-returns-then-shape-ne0
 unfolding prepare_verdict
-returns c = stop _ c.before.before.judge-shape.ensures c.if1.true
+returns c = stop _ c.judge_shape-shape.ensures c.if-shape-ne0.true
 
-returns-2 : tie.Need-returns-2
+returns-2 : tie.Need-returns-then-lengths-ne0
 unfolding prepare_verdict
 returns-2 c =
-    let shape = c.before.before.before in
-    go shape.before.before.judge-shape.ensures shape.if1.false (stop _ c.before.before.judge-lengths.ensures c.if2.true)
+    let shape = c in
+    go shape.judge_shape-shape.ensures shape.if-shape-ne0.false (stop _ c.judge_lengths-lengths.ensures c.if-lengths-ne0.true)
 
-judge-selections-requires : tie.Need-judge-selections-requires
-judge-selections-requires c κs = (lengths_passed c.before.before.judge-lengths.ensures c.if2.false).selections_long
+judge-selections-requires : tie.Need-judge_selections-large-requires
+judge-selections-requires c κs = (lengths_passed c.judge_lengths-lengths.ensures c.if-lengths-ne0.false).selections_long
 
-returns-3 : tie.Need-returns-3
+returns-3 : tie.Need-returns-then-large-ne0
 unfolding prepare_verdict
 returns-3 c =
-    let lengths = c.before.before.before in
-    let shape = lengths.before.before.before in
-    go shape.before.before.judge-shape.ensures shape.if1.false
-    (go lengths.before.before.judge-lengths.ensures lengths.if2.false (stop _ c.before.before.judge-selections.ensures c.if3.true))
+    let lengths = c in
+    let shape = lengths in
+    go shape.judge_shape-shape.ensures shape.if-shape-ne0.false
+    (go lengths.judge_lengths-lengths.ensures lengths.if-lengths-ne0.false (stop _ c.judge_selections-large.ensures c.if-large-ne0.true))
 
-returns-4 : tie.Need-returns-4
+returns-4 : tie.Need-returns
 unfolding prepare_verdict
 returns-4 c =
-    let large = c.before in
-    let lengths = large.before.before.before in
-    let shape = lengths.before.before.before in
-    go shape.before.before.judge-shape.ensures shape.if1.false
-    (go lengths.before.before.judge-lengths.ensures lengths.if2.false
-    (go large.before.before.judge-selections.ensures large.if3.false c.judge-sets.ensures))
+    let large = c in
+    let lengths = large in
+    let shape = lengths in
+    go shape.judge_shape-shape.ensures shape.if-shape-ne0.false
+    (go lengths.judge_lengths-lengths.ensures lengths.if-lengths-ne0.false
+    (go large.judge_selections-large.ensures large.if-large-ne0.false c.judge_sets.ensures))
 
-pub judge-prepare-spec : {M : Type 1} → statement M
-judge-prepare-spec =
+pub judge_prepare_spec : {M : Type 1} → statement M
+judge_prepare_spec =
     tie.close
     (tie.spec
     (λ c κs. search rules)

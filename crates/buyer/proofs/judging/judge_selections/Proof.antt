@@ -8,7 +8,7 @@ use Rattle.buyer.proofs.judging.judge_selections.Tie as tie
 
 returns : tie.Need-returns
 unfolding selections_verdict at_first
-returns c = rw (c.refuse-unless.ensures, c.before.first-large.ensures, zero-add)
+returns c = rw (c.refuse_unless.ensures, c.first_large-row.ensures, zero-add)
 
-pub judge-selections-spec : {M : Type 1} → statement M
-judge-selections-spec = tie.close (tie.spec (λ c κs. search rules) (λ c κs. search rules) returns)
+pub judge_selections_spec : {M : Type 1} → statement M
+judge_selections_spec = tie.close (tie.spec (λ c κs. search rules) (λ c κs. search rules) returns)

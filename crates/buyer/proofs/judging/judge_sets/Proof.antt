@@ -5,25 +5,25 @@ use Rattle.buyer.specs.Prepare.{sets_padding}
 use Rattle.buyer.proofs.judging.judge_sets.Statement.{statement}
 use Rattle.buyer.proofs.judging.judge_sets.Tie as tie
 
-returns : tie.Need-returns
+returns : tie.Need-returns-then-seeded
 unfolding sets_padding
-returns c = rw c.if1.true
+returns c = rw c.if-seeded.true
 
-returns-2 : tie.Need-returns-2
+returns-2 : tie.Need-returns-then-padding-ne0
 unfolding sets_padding
 returns-2 c =
-    rw c.before.before.before.before.if1.false
-    (stop _ (rw c.before.before.before.columns_of.ensures.is at c.before.before.refuse-padded.ensures) c.if2.true)
+    rw c.if-seeded.false
+    (stop _ (rw c.columns_of-k.ensures.is at c.refuse_padded-padding.ensures) c.if-padding-ne0.true)
 
-returns-3 : tie.Need-returns-3
+returns-3 : tie.Need-returns
 unfolding sets_padding
 returns-3 c =
-    let k = c.before.before.before.before.columns_of.ensures.is in
-    rw c.before.before.before.before.before.if1.false
-    (go (rw k at c.before.before.before.refuse-padded.ensures) c.before.if2.false (rw k at c.refuse-padded2.ensures))
+    let k = c.columns_of-k.ensures.is in
+    rw c.if-seeded.false
+    (go (rw k at c.refuse_padded-padding.ensures) c.if-padding-ne0.false (rw k at c.refuse_padded.ensures))
 
-pub judge-sets-spec : {M : Type 1} → statement M
-judge-sets-spec =
+pub judge_sets_spec : {M : Type 1} → statement M
+judge_sets_spec =
     tie.close
     (tie.spec
     returns

@@ -13,30 +13,30 @@ use Rattle.buyer.proofs.Opened.{part_all}
 use Rattle.buyer.proofs.opening.open_received.Statement.{statement}
 use Rattle.buyer.proofs.opening.open_received.Tie as tie
 
-returns : tie.Need-returns
-returns c = gives_old c.before.before.judge-open.ensures c.if1.true refl
+returns : tie.Need-returns-then-verdict-ne0
+returns c = gives_old c.judge_open-verdict.ensures c.if-verdict-ne0.true refl
 
 -- what is known once nothing is refused
-ok : (x : tie.Else1) → let a = x.before.before.before.before.before.before.before.before.args in
+ok : (x : tie.Else-verdict-ne0) → let a = x.args in
     Opens a.s.mode a.s.rows a.s.places a.s.bytes a.session.now a.selections.now a.kept.now a.received.now (length a.opened.now)
-ok x = open_passed x.before.before.judge-open.ensures x.if1.false
+ok x = open_passed x.judge_open-verdict.ensures x.if-verdict-ne0.false
 
-long : (x : tie.Else1) → let a = x.before.before.before.before.before.before.before.before.args in
+long : (x : tie.Else-verdict-ne0) → let a = x.args in
     length a.received.now ≡ 27 + a.s.rows * a.s.places * a.s.bytes
 long x =
-    let a = x.before.before.before.before.before.before.before.before.args in
+    let a = x.args in
     strings_long a.s.mode a.s.rows a.s.places a.s.bytes a.session.now a.received.now (ok x).arrived
 
-sub-open-rows : tie.Need-overflow-sub-open-rows
+sub-open-rows : tie.Need-slice_bounds-open_rows-count
 sub-open-rows c = omega (arith, long c)
 
-part-open-rows-start : tie.Need-slice-bounds-open-rows-start
+part-open-rows-start : tie.Need-slice_bounds-open_rows-start
 part-open-rows-start c = omega (arith, long c)
 
-open-rows-requires : tie.Need-open-rows-requires
+open-rows-requires : tie.Need-open_rows-requires
 open-rows-requires c κs =
     let x = c.before.before in
-    let a = x.before.before.before.before.before.before.before.before.args in
+    let a = x.args in
     let z = ok x in
     record {
       rows_few = z.shape.rows_few;
@@ -52,17 +52,17 @@ open-rows-requires c κs =
       small = z.small;
     }
 
-returns-2 : tie.Need-returns-2
+returns-2 : tie.Need-returns
 unfolding opened_strings
 returns-2 c =
-    let x = c.before.before.before.before.before in
-    let a = x.before.before.before.before.before.before.before.before.args in
-    gives_new x.before.before.judge-open.ensures x.if1.false
-    (c.before.before.open-rows.ensures
+    let x = c in
+    let a = x.args in
+    gives_new x.judge_open-verdict.ensures x.if-verdict-ne0.false
+    (c.open_rows.ensures
     ∙ ap (opened_rows a.s.mode a.s.rows a.s.places a.s.bytes a.session.now a.selections.now a.kept.now) (part_all a.received.now))
 
-pub open-received-spec : {M : Type 1} → statement M
-open-received-spec =
+pub open_received_spec : {M : Type 1} → statement M
+open_received_spec =
     tie.close
     (tie.spec
     (λ c κs. search rules)

@@ -10,21 +10,21 @@ use Rattle.buyer.proofs.Opened.{selected-opened}
 use Rattle.buyer.proofs.opening.open_rows.Statement.{statement}
 use Rattle.buyer.proofs.opening.open_rows.Tie as tie
 
-open-selected-requires : tie.Need-open-selected-requires
+open-selected-requires : tie.Need-open_selected-requires
 open-selected-requires c κs =
-    let f = c.before.before.before.before.before.before.before.before.before.before.requires in
+    let f = c.requires in
     record {
       rows_few = f.rows_few;
       bytes_few = f.bytes_few;
       session_long = f.session_long;
       kept_long = f.kept_long;
-      strings_long = c.before.before.opened.given ∙ f.opened_long;
+      strings_long = c.opened-1.given ∙ f.opened_long;
     }
 
 returns : tie.Need-returns
 returns c =
-    let d = c.before.before.before.before.before.before in
-    let s = d.before.before.before.before.before.before.before in
+    let d = c in
+    let s = d in
     let a = s.args in
     let f = s.requires in
     let fits : Fits a.s.rows a.s.places a.s.bytes (length a.selections.now) (length a.strings.now) (length a.opened.now)
@@ -38,10 +38,10 @@ returns c =
       strings_long = f.strings_long;
       old_long = f.opened_long;
     } in
-    c.before.before.open-selected.ensures
+    c.open_selected.ensures
     ∙ ap (opened_selected a.s.mode a.s.rows a.s.bytes a.session.now a.kept.now)
     (d.select.ensures ∙ selected_over_fits a.s.rows a.s.places a.s.bytes a.selections.now a.strings.now a.opened.now fits)
     ∙ selected-opened a.s.mode a.s.rows a.s.places a.s.bytes a.session.now a.selections.now a.kept.now a.strings.now f.small
 
-pub open-rows-spec : {M : Type 1} → statement M
-open-rows-spec = tie.close (tie.spec (λ c κs. search rules) open-selected-requires (λ c. search rules) returns)
+pub open_rows_spec : {M : Type 1} → statement M
+open_rows_spec = tie.close (tie.spec (λ c κs. search rules) open-selected-requires (λ c. search rules) returns)

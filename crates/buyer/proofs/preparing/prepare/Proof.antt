@@ -16,47 +16,47 @@ use Rattle.buyer.proofs.Prepared.{length-put, block-put, part_long, length-colum
 use Rattle.buyer.proofs.preparing.prepare.Statement.{statement}
 use Rattle.buyer.proofs.preparing.prepare.Tie as tie
 
-returns : tie.Need-returns
+returns : tie.Need-returns-then-verdict-ne0
 returns c =
-    let v = c.before.before.judge-prepare.ensures in
-    record { sent = gives_old v c.if1.true refl; rows = gives_old v c.if1.true refl }
+    let v = c.judge_prepare-verdict.ensures in
+    record { sent = gives_old v c.if-verdict-ne0.true refl; rows = gives_old v c.if-verdict-ne0.true refl }
 
 -- what is known once nothing is refused
-ok : (x : tie.Else1) → let a = x.before.before.before.before.before.before.before.before.before.args in
+ok : (x : tie.Else-verdict-ne0) → let a = x.args in
     Prepares a.seeded a.s.mode a.s.rows a.s.places a.s.bytes a.session.now a.first.now a.second.now a.selections.now
     (length a.message.now) (length a.kept.now)
-ok x = prepare_passed x.before.before.judge-prepare.ensures x.if1.false
+ok x = prepare_passed x.judge_prepare-verdict.ensures x.if-verdict-ne0.false
 
-put-header-requires : tie.Need-put-header-requires
+put-header-requires : tie.Need-put_header-requires
 put-header-requires c κs =
     let z = ok c.before in
     (z.lengths.session_long, omega (arith, z.lengths.message_long), omega (arith, z.lengths.message_long, z.shape.block_few))
 
 -- the message is as long with its header in it
-same : (h : tie.After-put-header)
-    → length h.put-header.new.1.1.0 ≡ length h.before.before.before.before.before.before.before.before.before.before.before.args.message.now
+same : (h : tie.After-put_header)
+    → length h.put_header.new.message ≡ length h.args.message.now
 same h =
     let x = h.before.before in
-    let a = x.before.before.before.before.before.before.before.before.before.args in
+    let a = x.args in
     let z = ok x in
-    ap length h.put-header.ensures
+    ap length h.put_header.ensures
     ∙ length-put a.message.now (header 3 (length a.message.now - 27) a.s.mode a.s.rows a.s.places a.s.bytes a.session.now)
     (length-header 3 (length a.message.now - 27) a.s.mode a.s.rows a.s.places a.s.bytes a.session.now z.lengths.session_long)
     (omega (arith, z.lengths.message_long))
 
-sub-fill : tie.Need-overflow-sub-fill
+sub-fill : tie.Need-slice_bounds-fill-count
 sub-fill c = let h = c.before.before in omega (arith, same h, (ok h.before.before).lengths.message_long)
 
-part-fill-start : tie.Need-slice-bounds-fill-start
+part-fill-start : tie.Need-slice_bounds-fill-start
 part-fill-start c = let h = c.before.before in omega (arith, same h, (ok h.before.before).lengths.message_long)
 
 fill-requires : tie.Need-fill-requires
 fill-requires c κs =
     let h = c.before.before.before.before in
     let x = h.before.before in
-    let a = x.before.before.before.before.before.before.before.before.before.args in
+    let a = x.args in
     let z = ok x in
-    let block = part_long h.put-header.new.1.1.0 (k_of a.s.mode * col_bytes a.s.rows) (same h ∙ z.lengths.message_long) in (
+    let block = part_long h.put_header.new.message (k_of a.s.mode * col_bytes a.s.rows) (same h ∙ z.lengths.message_long) in (
       set_fit_holds a.seeded (k_of a.s.mode) a.s.rows _ _ _
           (record { some = z.shape.rows-some; few = z.shape.rows_few; session_long = z.lengths.session_long; set_long = z.lengths.first_long; block_long = block }),
       set_fit_holds a.seeded (k_of a.s.mode) a.s.rows _ _ _
@@ -65,33 +65,33 @@ fill-requires c κs =
       z.lengths.kept_long,
     )
 
-returns-2 : tie.Need-returns-2
+returns-2 : tie.Need-returns
 returns-2 c =
-    let f = c.before.before.before.before in
-    let h = f.before.before.before.before.before in
-    let x = h.before.before in
-    let a = x.before.before.before.before.before.before.before.before.before.args in
+    let f = c in
+    let h = f in
+    let x = h.before.before.before.before.before.before.before.before.before.before.before in
+    let a = x.args in
     let z = ok x in
-    let v = x.before.before.judge-prepare.ensures in
+    let v = x.judge_prepare-verdict.ensures in
     let len : ℕ = length a.message.now - 27 in
     let head : List ℕ = header 3 len a.s.mode a.s.rows a.s.places a.s.bytes a.session.now in
-    let block = f.fill.new.1.1.1.1.1.1.1.0 in
+    let block = f.fill.new.block in
     let long : length block ≡ k_of a.s.mode * col_bytes a.s.rows =
     ap length f.fill.ensures.0
     ∙ length-column_block a.seeded a.s.mode a.s.rows a.s.places a.s.bytes a.session.now a.first.now a.second.now a.selections.now
     z.lengths.first_long in
     record {
-      sent = gives_new v x.if1.false
-          (block-put a.message.now head block h.put-header.ensures
+      sent = gives_new v x.if-verdict-ne0.false
+          (block-put a.message.now head block h.put_header.ensures
           (length-header 3 len a.s.mode a.s.rows a.s.places a.s.bytes a.session.now z.lengths.session_long)
           (omega (arith, z.lengths.message_long)) (omega (arith, z.lengths.message_long))
           ∙ message_made a.seeded a.s.mode a.s.rows a.s.places a.s.bytes a.session.now a.first.now a.second.now a.selections.now len block
           f.fill.ensures.0 (omega (arith, z.lengths.message_long)));
-      rows = gives_new v x.if1.false f.fill.ensures.1;
+      rows = gives_new v x.if-verdict-ne0.false f.fill.ensures.1;
     }
 
-pub prepare-spec : {M : Type 1} → statement M
-prepare-spec =
+pub prepare_spec : {M : Type 1} → statement M
+prepare_spec =
     tie.close
     (tie.spec
     (λ c κs. search rules)

@@ -12,15 +12,15 @@ use Rattle.buyer.proofs.preparing.put_header.Tie as tie
 
 returns : tie.Need-returns
 returns c =
-    let h = c.before.before in
-    let s = h.before.before.before.before in
+    let h = c in
+    let s = h in
     let a = s.args in
-    header-put a.message.now h.write-header.new.1.1.1.1.0
+    header-put a.message.now h.write_header.new.out
     ∙ ap (λ (x : List ℕ). x ++ drop 27 a.message.now)
-    (h.write-header.ensures ∙ header-written 3 _ a.s.mode a.s.rows a.s.places a.s.bytes a.session.now _ s.requires.0 (simp (length-take, length-drop) (omega arith)) (omega arith))
+    (h.write_header.ensures ∙ header-written 3 _ a.s.mode a.s.rows a.s.places a.s.bytes a.session.now _ s.requires.0 (simp (length-take, length-drop) (omega arith)) (omega arith))
 
-pub put-header-spec : {M : Type 1} → statement M
-put-header-spec =
+pub put_header_spec : {M : Type 1} → statement M
+put_header_spec =
     tie.close
     (tie.spec
     (λ c. search rules)

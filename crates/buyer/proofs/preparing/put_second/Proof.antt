@@ -14,16 +14,16 @@ use Rattle.buyer.proofs.Prepared.{set_alone, set_long}
 use Rattle.buyer.proofs.preparing.put_second.Statement.{statement}
 use Rattle.buyer.proofs.preparing.put_second.Tie as tie
 
-add-chosen-requires : tie.Need-add-chosen-requires
+add-chosen-requires : tie.Need-add_chosen-requires
 add-chosen-requires c κs =
-    let set = c.before.before.before in
-    let n = set.before.before in
-    let zero = n.before.before.before in
-    let s = zero.before.before.before.before.before.before in
+    let set = c in
+    let n = set in
+    let zero = n in
+    let s = zero in
     let a = s.args in (
       s.requires.1,
       ap length (set_alone a.seeded a.mode a.rows a.session.now a.second.now a.block.now s.requires.0
-          n.columns_of.result _ n.columns_of.ensures.is zero.clear.ensures set.add-set.ensures)
+          n.columns_of.result _ n.columns_of.ensures.is zero.clear.ensures set.add_set.ensures)
           ∙ set_long a.seeded a.mode a.rows a.session.now a.second.now a.block.now s.requires.0
           ∙ ap (λ (x : ℕ). x * col_bytes a.rows) (k_of_lem a.mode),
     )
@@ -31,18 +31,18 @@ add-chosen-requires c κs =
 returns : tie.Need-returns
 unfolding kept_columns
 returns c =
-    let set = c.before.before.before.before.before.before in
-    let n = set.before.before in
-    let zero = n.before.before.before in
-    let s = zero.before.before.before.before.before.before in
+    let set = c in
+    let n = set in
+    let zero = n in
+    let s = zero in
     let a = s.args in
-    c.before.before.add-chosen.ensures
+    c.add_chosen.ensures
     ∙ ap (λ (x : List ℕ). x ⊕ chosen (code_of a.mode) a.rows a.selections.now)
     (set_alone a.seeded a.mode a.rows a.session.now a.second.now a.block.now s.requires.0
-    n.columns_of.result _ n.columns_of.ensures.is zero.clear.ensures set.add-set.ensures)
+    n.columns_of.result _ n.columns_of.ensures.is zero.clear.ensures set.add_set.ensures)
 
-pub put-second-spec : {M : Type 1} → statement M
-put-second-spec =
+pub put_second_spec : {M : Type 1} → statement M
+put_second_spec =
     tie.close
     (tie.spec
     (λ c κs. search rules)

@@ -5,14 +5,14 @@ use borrow.Author.Rules.{rules}
 use Rattle.listing.proofs.printing.judge.Statement.{statement}
 use Rattle.listing.proofs.printing.judge.Tie as tie
 
-returns : tie.Need-returns
-returns c = stop _ refl c.if1.true
+returns : tie.Need-returns-then-walked-ne0
+returns c = stop _ refl c.if-walked-ne0.true
 
-returns-2 : tie.Need-returns-2
-returns-2 c = go refl c.before.if1.false c.check-padding.ensures
+returns-2 : tie.Need-returns
+returns-2 c = go refl c.if-walked-ne0.false c.check_padding.ensures
 
-pub judge-spec : {M : Type 1} → statement M
-judge-spec =
+pub judge_spec : {M : Type 1} → statement M
+judge_spec =
     tie.close
     (tie.spec
     returns

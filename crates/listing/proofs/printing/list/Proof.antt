@@ -6,17 +6,17 @@ use borrow.Author.Rules.{rules}
 use Rattle.listing.proofs.printing.list.Statement.{statement}
 use Rattle.listing.proofs.printing.list.Tie as tie
 
-returns : tie.Need-returns
-returns c = holds _ (joined _ _ _ (c.put-refusal.ensures [] c.before.empty.ensures) (listing_refused c.before.before.before.before.before.before.before.before.before.args.message.now c.before.before.before.before.before.before.before.walk.ensures c.before.before.before.before.judge.ensures c.before.before.if1.true))
+returns : tie.Need-returns-then-v-ne0
+returns c = holds _ (joined _ _ _ (c.put_refusal.ensures [] c.empty.ensures) (listing_refused c.args.message.now c.walk-w.ensures c.judge-v.ensures c.if-v-ne0.true))
 
-returns-2 : tie.Need-returns-2
+returns-2 : tie.Need-returns
 returns-2 c =
     holds _
-    (joined _ _ _ (c.put-block.ensures _ (c.before.put-session.ensures _ (c.before.before.put-shape.ensures [] c.before.before.before.empty2.ensures)))
-    (simp append_assoc (listing_lines c.before.before.before.before.before.before.before.before.before.before.before.args.message.now c.before.before.before.before.before.before.before.before.before.walk.ensures c.before.before.before.before.before.before.judge.ensures c.before.before.before.before.if1.false)))
+    (joined _ _ _ (c.put_block.ensures _ (c.put_session-second.ensures _ (c.put_shape-first.ensures [] c.empty-2.ensures)))
+    (simp append_assoc (listing_lines c.args.message.now c.walk-w.ensures c.judge-v.ensures c.if-v-ne0.false)))
 
-pub list-spec : {M : Type 1} → statement M
-list-spec =
+pub list_spec : {M : Type 1} → statement M
+list_spec =
     tie.close
     (tie.spec
     (λ c κs. search rules)

@@ -10,26 +10,26 @@ use Rattle.listing.proofs.Text.{joined, hexed_more}
 use Rattle.listing.proofs.printing.put_twelve.Statement.{statement}
 use Rattle.listing.proofs.printing.put_twelve.Tie as tie
 
-abbrev invariant-loop : tie.invariant-loop
+abbrev invariant-loop : tie.invariant-loop-i
 invariant-loop message out₀ i₀ out i = ((s : List ℕ) → out₀ ≡ listed s → out ≡ listed (s ++ hexed i (session_byte message))) × (i ≤ 12)
 
-abbrev decreases-loop : tie.decreases-loop
+abbrev decreases-loop : tie.decreases-loop-i
 decreases-loop message out₀ i₀ out i = 12 - i
 
-loop-holds : tie.Need-loop-init invariant-loop decreases-loop
+loop-holds : tie.Need-loop-i-init invariant-loop decreases-loop
 unfolding hexed
 loop-holds c = (λ s e. joined _ _ _ e (sym (append-nil s)), search rules)
 
-loop-again : tie.Need-loop-preserved invariant-loop decreases-loop
-loop-again c = (λ s e. joined _ _ _ (c.put-hex.ensures _ (c.before.before.before.loop.invariant.0 s e)) (hexed_more s _ _ c.before.byte-or-zero.ensures), search rules)
+loop-again : tie.Need-loop-i-preserved invariant-loop decreases-loop
+loop-again c = (λ s e. joined _ _ _ (c.put_hex-out.ensures _ (c.loop-i.invariant.0 s e)) (hexed_more s _ _ c.byte_or_zero.ensures), search rules)
 
 returns : tie.Need-returns invariant-loop decreases-loop
 returns c =
-    let i : c.before.loop.i ≡ 12 = omega arith in
-    λ s e. joined _ _ _ (c.before.loop.invariant.0 s e) (rw i)
+    let i : c.loop-i.i ≡ 12 = omega arith in
+    λ s e. joined _ _ _ (c.loop-i.invariant.0 s e) (rw i)
 
-pub put-twelve-spec : {M : Type 1} → statement M
-put-twelve-spec =
+pub put_twelve_spec : {M : Type 1} → statement M
+put_twelve_spec =
     tie.close
     (tie.spec
     invariant-loop

@@ -8,8 +8,8 @@ returns : tie.Need-returns
 unfolding listed
 returns c = refl
 
-pub empty-spec : {M : Type 1} → statement M
-empty-spec =
+pub empty_spec : {M : Type 1} → statement M
+empty_spec =
     tie.close
     (tie.spec
     returns)

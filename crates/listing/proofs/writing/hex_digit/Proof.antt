@@ -5,16 +5,16 @@ use borrow.Author.Rules.{rules}
 use Rattle.listing.proofs.writing.hex_digit.Statement.{statement}
 use Rattle.listing.proofs.writing.hex_digit.Tie as tie
 
-returns : tie.Need-returns
+returns : tie.Need-returns-then-d-lt10
 unfolding hex_digit
-returns c = simp (lt-ltb c.before.args.d 10 c.if1.true)
+returns c = simp (lt-ltb c.args.d 10 c.if-d-lt10.true)
 
-returns-2 : tie.Need-returns-2
+returns-2 : tie.Need-returns-else-d-lt10
 unfolding hex_digit
-returns-2 c = simp (le-ltb c.before.args.d 10 c.if1.false)
+returns-2 c = simp (le-ltb c.args.d 10 c.if-d-lt10.false)
 
-pub hex-digit-spec : {M : Type 1} → statement M
-hex-digit-spec =
+pub hex_digit_spec : {M : Type 1} → statement M
+hex_digit_spec =
     tie.close
     (tie.spec
     (λ c. search rules)

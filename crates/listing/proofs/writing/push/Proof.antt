@@ -4,11 +4,11 @@ use borrow.Author.Rules.{rules}
 use Rattle.listing.proofs.writing.push.Statement.{statement}
 use Rattle.listing.proofs.writing.push.Tie as tie
 
-returns : tie.Need-returns
-returns c = λ s e. listed_push s _ e c.before.if1.true
+returns : tie.Need-returns-then-at-lt128
+returns c = λ s e. listed_push s _ e c.if-at-lt128.true
 
-returns-2 : tie.Need-returns-2
-returns-2 c = λ s e. listed_full s _ e c.if1.false
+returns-2 : tie.Need-returns-else-at-lt128
+returns-2 c = λ s e. listed_full s _ e c.if-at-lt128.false
 
 pub push_spec : {M : Type 1} → statement M
 push_spec =

@@ -10,20 +10,20 @@ use Rattle.listing.proofs.Text.{joined, take_more}
 use Rattle.listing.proofs.writing.put.Statement.{statement}
 use Rattle.listing.proofs.writing.put.Tie as tie
 
-abbrev invariant-loop : tie.invariant-loop
+abbrev invariant-loop : tie.invariant-loop-i
 invariant-loop word out₀ i₀ out i = ((s : List ℕ) → out₀ ≡ listed s → out ≡ listed (s ++ take i word)) × (i ≤ length word)
 
-abbrev decreases-loop : tie.decreases-loop
+abbrev decreases-loop : tie.decreases-loop-i
 decreases-loop word out₀ i₀ out i = length word - i
 
-loop-holds : tie.Need-loop-init invariant-loop decreases-loop
+loop-holds : tie.Need-loop-i-init invariant-loop decreases-loop
 loop-holds c = (λ s e. joined _ _ _ e (sym (append-nil s)), search rules)
 
-loop-again : tie.Need-loop-preserved invariant-loop decreases-loop
-loop-again c = (λ s e. joined _ _ _ (c.push.ensures _ (c.before.before.before.loop.invariant.0 s e)) (take_more s c.before.before.before.before.before.args.word.now c.before.before.before.loop.i (search rules)), search rules)
+loop-again : tie.Need-loop-i-preserved invariant-loop decreases-loop
+loop-again c = (λ s e. joined _ _ _ (c.push-out.ensures _ (c.loop-i.invariant.0 s e)) (take_more s c.args.word.now c.loop-i.i (search rules)), search rules)
 
 returns : tie.Need-returns invariant-loop decreases-loop
-returns c = λ s e. joined _ _ _ (c.before.loop.invariant.0 s e) (ap (λ (x : List ℕ). s ++ x) (take_all c.before.loop.i c.before.before.before.args.word.now (search rules)))
+returns c = λ s e. joined _ _ _ (c.loop-i.invariant.0 s e) (ap (λ (x : List ℕ). s ++ x) (take_all c.loop-i.i c.args.word.now (search rules)))
 
 pub put_spec : {M : Type 1} → statement M
 put_spec =

@@ -8,10 +8,10 @@ use Rattle.listing.proofs.writing.put_decimal.Tie as tie
 
 returns : tie.Need-returns
 unfolding decimal
-returns c = λ s e. joined _ _ _ (c.push.ensures _ (c.before.put-lead4.ensures _ (c.before.before.put-lead3.ensures _ (c.before.before.before.put-lead2.ensures _ (c.before.before.before.before.put-lead.ensures s e))))) (simp append_assoc)
+returns c = λ s e. joined _ _ _ (c.push.ensures _ (c.put_lead-tens.ensures _ (c.put_lead-2.ensures _ (c.put_lead-thousands.ensures _ (c.put_lead.ensures s e))))) (simp append_assoc)
 
-pub put-decimal-spec : {M : Type 1} → statement M
-put-decimal-spec =
+pub put_decimal_spec : {M : Type 1} → statement M
+put_decimal_spec =
     tie.close
     (tie.spec
     (λ c κs. search rules)

@@ -6,10 +6,10 @@ use Rattle.listing.proofs.writing.put_hex.Statement.{statement}
 use Rattle.listing.proofs.writing.put_hex.Tie as tie
 
 returns : tie.Need-returns
-returns c = λ s e. joined _ _ _ (c.push2.ensures _ (c.before.before.push.ensures s e)) (simp (append_assoc, c.before.before.before.hex-digit.ensures, c.before.hex-digit2.ensures))
+returns c = λ s e. joined _ _ _ (c.push.ensures _ (c.push-high.ensures s e)) (simp (append_assoc, c.hex_digit.ensures, c.hex_digit-2.ensures))
 
-pub put-hex-spec : {M : Type 1} → statement M
-put-hex-spec =
+pub put_hex_spec : {M : Type 1} → statement M
+put_hex_spec =
     tie.close
     (tie.spec
     (λ c κs. search rules)

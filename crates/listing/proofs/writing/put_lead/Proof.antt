@@ -7,14 +7,14 @@ use borrow.Author.Rules.{rules}
 use Rattle.listing.proofs.writing.put_lead.Statement.{statement}
 use Rattle.listing.proofs.writing.put_lead.Tie as tie
 
-returns : tie.Need-returns
-returns c = λ s e. joined _ _ _ (c.push.ensures s e) (ap (λ (x : List ℕ). s ++ x) (lead_there c.before.before.args.unit c.before.before.args.n c.before.if1.true))
+returns : tie.Need-returns-then-unit-n
+returns c = λ s e. joined _ _ _ (c.push.ensures s e) (ap (λ (x : List ℕ). s ++ x) (lead_there c.args.unit c.args.n c.if-unit-n.true))
 
-returns-2 : tie.Need-returns-2
-returns-2 c = λ s e. joined _ _ _ e (sym (append-nil s) ∙ ap (λ (x : List ℕ). s ++ x) (lead_none c.before.args.unit c.before.args.n c.if1.false))
+returns-2 : tie.Need-returns-else-unit-n
+returns-2 c = λ s e. joined _ _ _ e (sym (append-nil s) ∙ ap (λ (x : List ℕ). s ++ x) (lead_none c.args.unit c.args.n c.if-unit-n.false))
 
-pub put-lead-spec : {M : Type 1} → statement M
-put-lead-spec =
+pub put_lead_spec : {M : Type 1} → statement M
+put_lead_spec =
     tie.close
     (tie.spec
     (λ c. search rules)

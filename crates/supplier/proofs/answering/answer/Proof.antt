@@ -6,18 +6,18 @@ use Rattle.basics.proofs.Verdicts.{gives_old, gives_new}
 use Rattle.supplier.proofs.answering.answer.Statement.{statement}
 use Rattle.supplier.proofs.answering.answer.Tie as tie
 
-returns : tie.Need-returns
-returns c = gives_old c.before.before.judge.ensures c.if1.true refl
+returns : tie.Need-returns-then-v-ne0
+returns c = gives_old c.judge-v.ensures c.if-v-ne0.true refl
 
-write-sized-requires : tie.Need-write-sized-requires
+write-sized-requires : tie.Need-write_sized-requires
 write-sized-requires c κs =
-    let e = c.before in
-    sym (ap (λ (v : Verdict). v.code) e.before.before.judge.ensures) ∙ e.if1.false
+    let e = c in
+    sym (ap (λ (v : Verdict). v.code) e.judge-v.ensures) ∙ e.if-v-ne0.false
 
-returns-2 : tie.Need-returns-2
+returns-2 : tie.Need-returns
 returns-2 c =
-    let e = c.before.before.before.before in
-    gives_new e.before.before.judge.ensures e.if1.false c.before.before.write-sized.ensures
+    let e = c in
+    gives_new e.judge-v.ensures e.if-v-ne0.false c.write_sized.ensures
 
-pub answer-spec : {M : Type 1} → statement M
-answer-spec = tie.close (tie.spec (λ c κs. search rules) returns write-sized-requires (λ c. search rules) returns-2)
+pub answer_spec : {M : Type 1} → statement M
+answer_spec = tie.close (tie.spec (λ c κs. search rules) returns write-sized-requires (λ c. search rules) returns-2)

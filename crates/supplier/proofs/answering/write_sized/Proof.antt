@@ -5,16 +5,16 @@ use Rattle.supplier.proofs.Ready.{ready_shape}
 use Rattle.supplier.proofs.answering.write_sized.Statement.{statement}
 use Rattle.supplier.proofs.answering.write_sized.Tie as tie
 
-write-answer-requires : tie.Need-write-answer-requires
-write-answer-requires c κs = (c.before.before.before.before.before.before.before.before.before.before.requires, omega (arith, c.before.before.if1.true))
+write-answer-requires : tie.Need-write_answer-requires
+write-answer-requires c κs = (c.requires, omega (arith, c.if-s-le-FEW_ROWS.true))
 
-write-answer-requires-2 : tie.Need-write-answer-requires-2
+write-answer-requires-2 : tie.Need-write_answer-requires-else-s-le-FEW_ROWS
 write-answer-requires-2 c κs =
-    let s = c.before.before.before.before.before.before.before.before.before.before in
+    let s = c in
     (s.requires, omega (arith, (ready_shape _ _ _ _ _ _ _ _ _ _ _ s.requires).rows_few))
 
-pub write-sized-spec : {M : Type 1} → statement M
-write-sized-spec =
+pub write_sized_spec : {M : Type 1} → statement M
+write_sized_spec =
     tie.close
     (tie.spec
     (λ c. search rules)
@@ -22,6 +22,6 @@ write-sized-spec =
     (λ c. search rules)
     write-answer-requires-2
     (λ c. search rules)
-    (λ c. c.before.before.before.write-answer.ensures)
+    (λ c. c.write_answer.ensures)
     (λ c. search rules)
-    (λ c. c.before.before.before.write-answer2.ensures))
+    (λ c. c.write_answer-else-s-le-FEW_ROWS.ensures))

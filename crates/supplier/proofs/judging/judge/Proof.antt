@@ -5,35 +5,35 @@ use Rattle.supplier.specs.Answer.{answer_verdict}
 use Rattle.supplier.proofs.judging.judge.Statement.{statement}
 use Rattle.supplier.proofs.judging.judge.Tie as tie
 
-returns : tie.Need-returns
+returns : tie.Need-returns-then-shape-ne0
 unfolding answer_verdict
-returns c = stop _ c.before.before.judge-shape.ensures c.if1.true
+returns c = stop _ c.judge_shape-shape.ensures c.if-shape-ne0.true
 
-returns-2 : tie.Need-returns-2
+returns-2 : tie.Need-returns-then-lengths-ne0
 unfolding answer_verdict
 returns-2 c =
-    let shaped = c.before.before.before in
-    go shaped.before.before.judge-shape.ensures shaped.if1.false (stop _ c.before.before.judge-lengths.ensures c.if2.true)
+    let shaped = c in
+    go shaped.judge_shape-shape.ensures shaped.if-shape-ne0.false (stop _ c.judge_lengths-lengths.ensures c.if-lengths-ne0.true)
 
-returns-3 : tie.Need-returns-3
+returns-3 : tie.Need-returns-then-padding-ne0
 unfolding answer_verdict
 returns-3 c =
-    let long = c.before.before.before in
-    let shaped = long.before.before.before in
-    go shaped.before.before.judge-shape.ensures shaped.if1.false
-    (go long.before.before.judge-lengths.ensures long.if2.false (stop _ c.before.before.judge-taken.ensures c.if3.true))
+    let long = c in
+    let shaped = long in
+    go shaped.judge_shape-shape.ensures shaped.if-shape-ne0.false
+    (go long.judge_lengths-lengths.ensures long.if-lengths-ne0.false (stop _ c.judge_taken-padding.ensures c.if-padding-ne0.true))
 
-returns-4 : tie.Need-returns-4
+returns-4 : tie.Need-returns
 unfolding answer_verdict
 returns-4 c =
-    let clear = c.before in
-    let long = clear.before.before.before in
-    let shaped = long.before.before.before in
-    go shaped.before.before.judge-shape.ensures shaped.if1.false
-    (go long.before.before.judge-lengths.ensures long.if2.false (go clear.before.before.judge-taken.ensures clear.if3.false c.check-received.ensures))
+    let clear = c in
+    let long = clear in
+    let shaped = long in
+    go shaped.judge_shape-shape.ensures shaped.if-shape-ne0.false
+    (go long.judge_lengths-lengths.ensures long.if-lengths-ne0.false (go clear.judge_taken-padding.ensures clear.if-padding-ne0.false c.check_received.ensures))
 
-pub judge-spec : {M : Type 1} → statement M
-judge-spec =
+pub judge_spec : {M : Type 1} → statement M
+judge_spec =
     tie.close
     (tie.spec
     (λ c κs. search rules)

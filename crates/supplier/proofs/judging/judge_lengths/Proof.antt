@@ -6,25 +6,25 @@ use Rattle.supplier.specs.Answer.{answer_lengths}
 use Rattle.supplier.proofs.judging.judge_lengths.Statement.{statement}
 use Rattle.supplier.proofs.judging.judge_lengths.Tie as tie
 
-mul-refuse-unless : tie.Need-overflow-mul-refuse-unless
-mul-refuse-unless c = omega (arith, mul_le_both _ _ 256 8192 c.before.before.before.before.columns_of.ensures.high c.entry-bytes.ensures.1)
+mul-refuse-unless : tie.Need-overflow_mul-k
+mul-refuse-unless c = omega (arith, mul_le_both _ _ 256 8192 c.columns_of-k.ensures.high c.entry_bytes.ensures.1)
 
 returns : tie.Need-returns
 unfolding answer_lengths
 returns c =
     rw (
-      c.refuse-unless5.ensures,
-      c.before.refuse-unless4.ensures,
-      c.before.before.refuse-unless3.ensures,
-      c.before.before.before.entry-bytes.ensures.0,
-      c.before.before.before.before.refuse-unless2.ensures,
-      c.before.before.before.before.before.refuse-unless.ensures,
-      c.before.before.before.before.before.before.volume.ensures.0,
-      c.before.before.before.before.before.before.before.columns_of.ensures.is,
+      c.refuse_unless.ensures,
+      c.refuse_unless-v2.ensures,
+      c.refuse_unless-v3.ensures,
+      c.entry_bytes.ensures.0,
+      c.refuse_unless-v4.ensures,
+      c.refuse_unless-v5.ensures,
+      c.volume-block.ensures.0,
+      c.columns_of-k.ensures.is,
     )
 
-pub judge-lengths-spec : {M : Type 1} → statement M
-judge-lengths-spec =
+pub judge_lengths_spec : {M : Type 1} → statement M
+judge_lengths_spec =
     tie.close
     (tie.spec
     (λ c κs. search rules)

@@ -9,19 +9,19 @@ use Rattle.supplier.specs.Answer.{taken_padding}
 use Rattle.supplier.proofs.judging.judge_taken.Statement.{statement}
 use Rattle.supplier.proofs.judging.judge_taken.Tie as tie
 
-returns : tie.Need-returns
+returns : tie.Need-returns-then-seeded
 unfolding taken_padding
-returns c = pick_passed _ c.if1.true refl
+returns c = pick_passed _ c.if-seeded.true refl
 
-returns-2 : tie.Need-returns-2
+returns-2 : tie.Need-returns
 unfolding taken_padding
 returns-2 c =
-    let a = c.before.before.before.before.args in
-    pick_failed _ c.before.before.if1.false
-    (c.refuse-padded.ensures ∙ ap (λ (k : ℕ). at_first k (padded a.s.rows a.taken.now) 9 0) c.before.columns_of.ensures.is)
+    let a = c.args in
+    pick_failed _ c.if-seeded.false
+    (c.refuse_padded.ensures ∙ ap (λ (k : ℕ). at_first k (padded a.s.rows a.taken.now) 9 0) c.columns_of.ensures.is)
 
-pub judge-taken-spec : {M : Type 1} → statement M
-judge-taken-spec =
+pub judge_taken_spec : {M : Type 1} → statement M
+judge_taken_spec =
     tie.close
     (tie.spec
     returns

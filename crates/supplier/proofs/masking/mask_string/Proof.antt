@@ -15,18 +15,18 @@ use Rattle.supplier.proofs.masking.mask_string.Tie as tie
 
 returns : tie.Need-returns
 returns c =
-    let masked = c.before.before in
-    let made = masked.before.before.before.before.before in
-    let s = made.before.before.before.before.before in
+    let masked = c in
+    let made = masked in
+    let s = made in
     let a = s.args in
     masked.mask.ensures
     ∙ pad_masked_fit a.session.now a.j _ a.string.now s.requires.0 (simp length-take (omega (arith, s.requires.1))) s.requires.2
     ∙ ap (λ (t : List ℕ). a.string.now ⊕ pad_bytes a.session.now (length a.string.now) a.j t)
-    (ap (λ (n : ℕ). take n made.xor-into.new.1.0) (sub-zero (length a.row.now)) ∙ ap (take (length a.row.now)) made.xor-into.ensures
+    (ap (λ (n : ℕ). take n made.xor_into.new.out) (sub-zero (length a.row.now)) ∙ ap (take (length a.row.now)) made.xor_into.ensures
     ∙ xor_front a.row.now a.word (omega (arith, s.requires.1)))
 
-pub mask-string-spec : {M : Type 1} → statement M
-mask-string-spec =
+pub mask_string_spec : {M : Type 1} → statement M
+mask_string_spec =
     tie.close
     (tie.spec
     (λ c. search rules)

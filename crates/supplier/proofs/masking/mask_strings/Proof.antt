@@ -8,48 +8,40 @@ use Rattle.supplier.proofs.Masked.{F, Masked, masked_agrees, masked_none, masked
 use Rattle.supplier.proofs.masking.mask_strings.Statement.{statement}
 use Rattle.supplier.proofs.masking.mask_strings.Tie as tie
 
-abbrev invariant-loop : tie.invariant-loop
+abbrev invariant-loop : tie.invariant-loop-r
 invariant-loop s session secret rows strings out₀ r₀ out r =
     (Masked (F s.mode s.rows s.places s.bytes session secret rows strings) s.rows s.places s.bytes r strings out) × (r ≤ s.places)
 
-abbrev decreases-loop : tie.decreases-loop
+abbrev decreases-loop : tie.decreases-loop-r
 decreases-loop s session secret rows strings out₀ r₀ out r = s.places - r
 
-abbrev start : tie.At-loop invariant-loop decreases-loop → tie.Start invariant-loop decreases-loop
-start l = l.before.before.before.before.before.before.before.before.before.before
-
-loop-again : tie.Need-loop-preserved invariant-loop decreases-loop
+loop-again : tie.Need-loop-r-preserved invariant-loop decreases-loop
 loop-again c =
-    let masked = c.before.before in
-    let t = masked.before.before in
-    let l = t.before.before in
-    let a = (start l).args in (
-      masked_more l.loop.invariant.0 masked.mask-place.ensures t.if1.true
+    let a = c.args in (
+      masked_more c.loop-r.invariant.0 c.mask_place.ensures c.loop-r-test.true
           (λ i b hi hb e.
-          masked_agrees a.s.mode a.s.rows a.s.places a.s.bytes a.session.now a.secret.now a.rows.now l.loop.out a.strings.now l.loop.r
-          i b t.if1.true hi hb e),
+          masked_agrees a.s.mode a.s.rows a.s.places a.s.bytes a.session.now a.secret.now a.rows.now c.loop-r.out a.strings.now c.loop-r.r
+          i b c.loop-r-test.true hi hb e),
       omega arith,
     )
 
 returns : tie.Need-returns invariant-loop decreases-loop
 returns c =
-    let l = c.before.before in
-    let s = start l in
-    let a = s.args in
-    masked_end l.loop.invariant.0 (omega arith) s.pre.0.strings_long
+    let a = c.args in
+    masked_end c.loop-r.invariant.0 (omega arith) c.requires.0.strings_long
     ∙ masked_all a.s.mode a.s.rows a.s.places a.s.bytes a.session.now a.secret.now a.rows.now a.strings.now
 
-pub mask-strings-spec : {M : Type 1} → statement M
-mask-strings-spec =
+pub mask_strings_spec : {M : Type 1} → statement M
+mask_strings_spec =
     tie.close
     (tie.spec
     invariant-loop
     decreases-loop
     (λ c κs. search rules)
-    (λ c. (masked_none _ _ _ _ (c.before.before.copy.ensures ∙ over_whole _ _ (sym c.before.before.before.before.before.before.before.before.before.requires.1)), omega arith))
-    (λ c κs. let l = c.before.before.before in (rw l.loop.invariant.0.long (start l).requires.0, c.before.if1.true))
+    (λ c. (masked_none _ _ _ _ (c.copy.ensures ∙ over_whole _ _ (sym c.requires.1)), omega arith))
+    (λ c κs. (rw c.loop-r.invariant.0.long c.requires.0, c.loop-r-test.true))
     (λ c. search rules)
     (λ c. search rules)
     loop-again
-    (λ c. let l = c.before.before in l.loop.invariant.0.long ∙ sym (start l).requires.1)
+    (λ c. c.loop-r.invariant.0.long ∙ sym c.requires.1)
     returns)

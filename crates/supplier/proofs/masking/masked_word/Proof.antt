@@ -10,22 +10,22 @@ use Rattle.basics.proofs.Fill.{Filled, filled_none, filled_more, filled_end}
 use Rattle.supplier.proofs.masking.masked_word.Statement.{statement}
 use Rattle.supplier.proofs.masking.masked_word.Tie as tie
 
-abbrev invariant-loop : tie.invariant-loop
+abbrev invariant-loop : tie.invariant-loop-p
 invariant-loop mode r secret word₀ p₀ word p = Filled (λ i. bit_and (get_or (word_bytes (code_of mode) r) i 0) (get_or secret i 0)) p word₀ word
 
-abbrev decreases-loop : tie.decreases-loop
+abbrev decreases-loop : tie.decreases-loop-p
 decreases-loop mode r secret word₀ p₀ word p = 32 - p
 
-loop-again : tie.Need-loop-preserved invariant-loop decreases-loop
+loop-again : tie.Need-loop-p-preserved invariant-loop decreases-loop
 loop-again c =
-    let l = c.before.before.before in
-    filled_more l.loop.invariant (search rules) (ap₂ bit_and c.before.selected_byte.ensures c.byte-or-zero.ensures)
+    let l = c in
+    filled_more l.loop-p.invariant (search rules) (ap₂ bit_and c.selected_byte.ensures c.byte_or_zero.ensures)
 
 returns : tie.Need-returns invariant-loop decreases-loop
-returns c = filled_end c.before.loop.invariant refl (omega arith)
+returns c = filled_end c.loop-p.invariant refl (omega arith)
 
-pub masked-word-spec : {M : Type 1} → statement M
-masked-word-spec =
+pub masked_word_spec : {M : Type 1} → statement M
+masked_word_spec =
     tie.close
     (tie.spec
     invariant-loop

@@ -21,15 +21,15 @@ use Rattle.supplier.proofs.Taken.{rows_q, taken_at}
 use Rattle.supplier.proofs.taking.take_rows.Statement.{statement}
 use Rattle.supplier.proofs.taking.take_rows.Tie as tie
 
-abbrev invariant-loop : tie.invariant-loop
+abbrev invariant-loop : tie.invariant-loop-g
 invariant-loop seeded mode rows session secret taken block q₀ width columns entries work₀ g₀ a₀ b₀ q work g a b =
     (Rowed (code_of mode).width g (rows_q (code_of mode) seeded rows session secret block taken) q₀ q)
     × (g ≤ width) × (a ≡ g * (8 * col_bytes rows)) × (b ≡ g * (8 * entry_bytes seeded rows)) × (length work ≡ 1024)
 
-abbrev decreases-loop : tie.decreases-loop
+abbrev decreases-loop : tie.decreases-loop-g
 decreases-loop seeded mode rows session secret taken block q₀ width columns entries work₀ g₀ a₀ b₀ q work g a b = width - g
 
-module _ (l : tie.At-loop invariant-loop decreases-loop) where
+module _ (l : tie.At-loop-g invariant-loop decreases-loop) where
   abbrev start : tie.Start invariant-loop decreases-loop
   start = l.before.before.before.before.before.before.before.before.before
 
@@ -39,108 +39,108 @@ module _ (l : tie.At-loop invariant-loop decreases-loop) where
   abbrev column : ℕ
   column = col_bytes start.args.rows
 
-  width : l.before.before.before.row-bytes.result ≡ (code_of start.args.mode).width
-  width = l.before.before.before.row-bytes.ensures.is
+  width : l.row_bytes-width.result ≡ (code_of start.args.mode).width
+  width = l.row_bytes-width.ensures.is
 
-  column_is : l.before.before.column-bytes.result ≡ column
-  column_is = l.before.before.column-bytes.ensures
+  column_is : l.column_bytes-columns.result ≡ column
+  column_is = l.column_bytes-columns.ensures
 
-  entry_is : l.before.entry-bytes.result ≡ entry
-  entry_is = l.before.entry-bytes.ensures.0
+  entry_is : l.entry_bytes-entries.result ≡ entry
+  entry_is = l.entry_bytes-entries.ensures.0
 
   -- the next eight columns stand in the message's block, and the next eight entries in the set
-  columns_inside : l.loop.g < l.before.before.before.row-bytes.result → l.loop.a + 8 * column ≤ length start.args.block.now
-  columns_inside h = omega (arith, line-within (code_of start.args.mode).width (8 * column) l.loop.g (rw width at h), l.loop.inv.2, start.pre.block_long)
+  columns_inside : l.loop-g.g < l.row_bytes-width.result → l.loop-g.a + 8 * column ≤ length start.args.block.now
+  columns_inside h = omega (arith, line-within (code_of start.args.mode).width (8 * column) l.loop-g.g (rw width at h), l.loop-g.invariant.2, start.requires.block_long)
 
   columns_few : length start.args.block.now ≤ 2097152
-  columns_few = rw start.pre.block_long (mul_le_both _ (8 * column) 32 65536 (code_of_width start.args.mode) (omega (arith, start.pre.few)))
+  columns_few = rw start.requires.block_long (mul_le_both _ (8 * column) 32 65536 (code_of_width start.args.mode) (omega (arith, start.requires.few)))
 
-  entries_inside : l.loop.g < l.before.before.before.row-bytes.result → l.loop.b + 8 * entry ≤ length start.args.taken.now
-  entries_inside h = omega (arith, line-within (code_of start.args.mode).width (8 * entry) l.loop.g (rw width at h), l.loop.inv.3, start.pre.taken_long)
+  entries_inside : l.loop-g.g < l.row_bytes-width.result → l.loop-g.b + 8 * entry ≤ length start.args.taken.now
+  entries_inside h = omega (arith, line-within (code_of start.args.mode).width (8 * entry) l.loop-g.g (rw width at h), l.loop-g.invariant.3, start.requires.taken_long)
 
   entries_few : length start.args.taken.now ≤ 2097152
   entries_few =
-      rw start.pre.taken_long (mul_le_both _ (8 * entry) 32 65536 (code_of_width start.args.mode) (omega (arith, l.before.entry-bytes.ensures.1, entry_is)))
+      rw start.requires.taken_long (mul_le_both _ (8 * entry) 32 65536 (code_of_width start.args.mode) (omega (arith, l.entry_bytes-entries.ensures.1, entry_is)))
 
 -- the eight columns that were made, and that they are read again from the workspace
-module _ (t : tie.After-taken-columns invariant-loop decreases-loop) where
-  abbrev loop : tie.At-loop invariant-loop decreases-loop
+module _ (t : tie.After-taken_columns invariant-loop decreases-loop) where
+  abbrev loop : tie.At-loop-g invariant-loop decreases-loop
   loop = t.before.before.before.before
 
   abbrev size : ℕ
-  size = 8 * loop.before.before.column-bytes.result
+  size = 8 * loop.column_bytes-columns.result
 
   abbrev eight : List ℕ
-  eight = t.taken-columns.last.1.1.1.1.0
+  eight = t.taken_columns.new.eight
 
   made : let a = (start loop).args in
-      eight ≡ columns_of a.seeded 8 a.rows a.session.now (take (8 * entry loop) (drop (loop.loop.g * (8 * entry loop)) a.taken.now))
+      eight ≡ columns_of a.seeded 8 a.rows a.session.now (take (8 * entry loop) (drop (loop.loop-g.g * (8 * entry loop)) a.taken.now))
   made = let a = (start loop).args in
-      let entries : loop.loop.b + 8 * loop.before.entry-bytes.result - loop.loop.b ≡ 8 * entry loop = omega (arith, entry_is loop) in
-      t.taken-columns.ensures
-      ∙ ap₂ (λ (x y : ℕ). columns_of a.seeded 8 a.rows a.session.now (take x (drop y a.taken.now))) entries loop.loop.inv.3
+      let entries : loop.loop-g.b + 8 * loop.entry_bytes-entries.result - loop.loop-g.b ≡ 8 * entry loop = omega (arith, entry_is loop) in
+      t.taken_columns.ensures
+      ∙ ap₂ (λ (x y : ℕ). columns_of a.seeded 8 a.rows a.session.now (take x (drop y a.taken.now))) entries loop.loop-g.invariant.3
 
   eight_long : length eight ≡ size
   eight_long = let a = (start loop).args in
       ap length made
-      ∙ length-columns_of a.seeded 8 a.rows a.session.now _ (simp (length-take, length-drop) (omega (arith, entries_inside loop t.before.before.before.loop-test.taken, loop.loop.inv.3)))
+      ∙ length-columns_of a.seeded 8 a.rows a.session.now _ (simp (length-take, length-drop) (omega (arith, entries_inside loop t.loop-g-test.true, loop.loop-g.invariant.3)))
       ∙ ap (λ (x : ℕ). 8 * x) (sym (column_is loop))
 
-  again : take (size - 0) (drop 0 (put_mid 0 (size - 0) loop.loop.work eight)) ≡ eight
-  again = front_back size loop.loop.work eight eight_long
+  again : take (size - 0) (drop 0 (put_mid 0 (size - 0) loop.loop-g.work eight)) ≡ eight
+  again = front_back size loop.loop-g.work eight eight_long
 
-  work_long : length (put_mid 0 (size - 0) loop.loop.work eight) ≡ 1024
-  work_long = same_len_mid 0 (size - 0) loop.loop.work eight (eight_long ∙ simp (length-take, length-drop) (omega (arith, column_is loop, (start loop).pre.few, loop.loop.inv.4))) ∙ loop.loop.inv.4
+  work_long : length (put_mid 0 (size - 0) loop.loop-g.work eight) ≡ 1024
+  work_long = same_len_mid 0 (size - 0) loop.loop-g.work eight (eight_long ∙ simp (length-take, length-drop) (omega (arith, column_is loop, (start loop).requires.few, loop.loop-g.invariant.4))) ∙ loop.loop-g.invariant.4
 
   -- the message's eight columns
   abbrev lent : List ℕ
-  lent = take (loop.loop.a + size - loop.loop.a) (drop loop.loop.a (start loop).args.block.now)
+  lent = take (loop.loop-g.a + size - loop.loop-g.a) (drop loop.loop-g.a (start loop).args.block.now)
 
-  others : lent ≡ take (8 * column loop) (drop (loop.loop.g * (8 * column loop)) (start loop).args.block.now)
+  others : lent ≡ take (8 * column loop) (drop (loop.loop-g.g * (8 * column loop)) (start loop).args.block.now)
   others =
-      let columns : loop.loop.a + size - loop.loop.a ≡ 8 * column loop = omega (arith, column_is loop) in
-      ap₂ (λ (x y : ℕ). take x (drop y (start loop).args.block.now)) columns loop.loop.inv.2
+      let columns : loop.loop-g.a + size - loop.loop-g.a ≡ 8 * column loop = omega (arith, column_is loop) in
+      ap₂ (λ (x y : ℕ). take x (drop y (start loop).args.block.now)) columns loop.loop-g.invariant.2
 
-taken-columns-requires : tie.Need-taken-columns-requires invariant-loop decreases-loop
+taken-columns-requires : tie.Need-taken_columns-requires invariant-loop decreases-loop
 taken-columns-requires c κs =
-    let t = c.before.before in
-    let l = t.before in
+    let t = c in
+    let l = t.before.before.before in
     let s = start l in
     set_fit_holds s.args.seeded 8 s.args.rows _ _ _
     (record {
-      some = s.pre.some;
-      few = s.pre.few;
-      session_long = s.pre.session_long;
-      set_long = simp (length-take, length-drop) (omega (arith, entries_inside l t.loop-test.true, entry_is l));
-      block_long = simp (length-take, length-drop) (omega (arith, column_is l, s.pre.few, l.loop.invariant.4));
+      some = s.requires.some;
+      few = s.requires.few;
+      session_long = s.requires.session_long;
+      set_long = simp (length-take, length-drop) (omega (arith, entries_inside l t.loop-g-test.true, entry_is l));
+      block_long = simp (length-take, length-drop) (omega (arith, column_is l, s.requires.few, l.loop-g.invariant.4));
     })
 
-loop-again : tie.Need-loop-preserved invariant-loop decreases-loop
+loop-again : tie.Need-loop-g-preserved invariant-loop decreases-loop
 loop-again c =
-    let t = c.before.before.before.before.before.before.before.before.before in
+    let t = c.before.before.before.before.before.before.before.before in
     let l = loop t in
     let s = start l in
     let a = s.args in
     let C = code_of a.mode in
-    let h : l.loop.g < C.width = rw (width l) at t.before.before.before.loop-test.true in
-    let keep : ℕ = 255 - get_or a.secret.now l.loop.g 0 in
-    let other : List ℕ = take (8 * column l) (drop (l.loop.g * (8 * column l)) a.block.now) in
-    let fits : EightFit a.rows C.width l.loop.g (length (eight t)) (length other) (length l.loop.q) = record {
+    let h : l.loop-g.g < C.width = rw (width l) at t.loop-g-test.true in
+    let keep : ℕ = 255 - get_or a.secret.now l.loop-g.g 0 in
+    let other : List ℕ = take (8 * column l) (drop (l.loop-g.g * (8 * column l)) a.block.now) in
+    let fits : EightFit a.rows C.width l.loop-g.g (length (eight t)) (length other) (length l.loop-g.q) = record {
       eight_long = eight_long t ∙ ap (λ (x : ℕ). 8 * x) (column_is l);
-      others_long = simp (length-take, length-drop) (omega (arith, columns_inside l t.before.before.before.loop-test.true, l.loop.inv.2));
-      rows_long = l.loop.inv.0.long ∙ s.pre.rows_long;
+      others_long = simp (length-take, length-drop) (omega (arith, columns_inside l t.loop-g-test.true, l.loop-g.invariant.2));
+      rows_long = l.loop-g.invariant.0.long ∙ s.requires.rows_long;
       place = h;
     } in (
-      rowed_more a.rows (joined (col_bytes a.rows) keep (eight t) other) l.loop.inv.0 h s.pre.rows_long
-          (c.before.before.join-eight.ensures
-          ∙ ap₂ (λ (x : ℕ) (y : List ℕ). joined_over a.rows x l.loop.g keep y (lent t) l.loop.q) (width l) (again t)
-          ∙ ap (λ (y : List ℕ). joined_over a.rows C.width l.loop.g keep (eight t) y l.loop.q) (others t)
-          ∙ joined_fits a.rows C.width l.loop.g keep (eight t) other l.loop.q fits)
-          (taken_at C a.seeded a.rows a.session.now a.secret.now a.block.now a.taken.now l.loop.g (eight t) other h s.pre.block_long s.pre.taken_long
-          (omega (arith, c.before.before.before.before.before.before.before.shared-slice-known5.given l.loop.g)) (made t) refl),
+      rowed_more a.rows (joined (col_bytes a.rows) keep (eight t) other) l.loop-g.invariant.0 h s.requires.rows_long
+          (c.join_eight.ensures
+          ∙ ap₂ (λ (x : ℕ) (y : List ℕ). joined_over a.rows x l.loop-g.g keep y (lent t) l.loop-g.q) (width l) (again t)
+          ∙ ap (λ (y : List ℕ). joined_over a.rows C.width l.loop-g.g keep (eight t) y l.loop-g.q) (others t)
+          ∙ joined_fits a.rows C.width l.loop-g.g keep (eight t) other l.loop-g.q fits)
+          (taken_at C a.seeded a.rows a.session.now a.secret.now a.block.now a.taken.now l.loop-g.g (eight t) other h s.requires.block_long s.requires.taken_long
+          (omega (arith, c.shared_slice_known-in-loop-g-1.given l.loop-g.g)) (made t) refl),
       omega arith,
-      omega (arith, line_next (8 * column l) l.loop.g, column_is l, l.loop.inv.2),
-      omega (arith, line_next (8 * entry l) l.loop.g, entry_is l, l.loop.inv.3),
+      omega (arith, line_next (8 * column l) l.loop-g.g, column_is l, l.loop-g.invariant.2),
+      omega (arith, line_next (8 * entry l) l.loop-g.g, entry_is l, l.loop-g.invariant.3),
       work_long t,
     )
 
@@ -148,10 +148,10 @@ returns : tie.Need-returns invariant-loop decreases-loop
 returns c =
     let l = c.before in
     let s = start l in
-    rowed_end s.args.rows l.loop.invariant.0 (omega (arith, width l)) s.pre.rows_long (length-taking (code_of s.args.mode) s.args.rows _ _ _)
+    rowed_end s.args.rows l.loop-g.invariant.0 (omega (arith, width l)) s.requires.rows_long (length-taking (code_of s.args.mode) s.args.rows _ _ _)
 
-pub take-rows-spec : {M : Type 1} → statement M
-take-rows-spec =
+pub take_rows_spec : {M : Type 1} → statement M
+take_rows_spec =
     tie.close
     (tie.spec
     invariant-loop
@@ -162,26 +162,26 @@ take-rows-spec =
     (λ c κs. search rules)
     (λ c. search rules)
     (λ c. (rowed_none _ _ refl, omega arith, omega arith, omega arith, length-replicate {A = ℕ} 1024 0))
-    (λ c. let l = c.before in omega (arith, columns_inside l c.loop-test.true, columns_few l, column_is l))
-    (λ c. let l = c.before in omega (arith, entries_inside l c.loop-test.true, entries_few l, entry_is l))
+    (λ c. let l = c.before in omega (arith, columns_inside l c.loop-g-test.true, columns_few l, column_is l))
+    (λ c. let l = c.before in omega (arith, entries_inside l c.loop-g-test.true, entries_few l, entry_is l))
     (λ c. search rules)
     (λ c. search rules)
-    (λ c. let l = c.before in omega (arith, entries_inside l c.loop-test.true, entry_is l))
+    (λ c. let l = c.before in omega (arith, entries_inside l c.loop-g-test.true, entry_is l))
     (λ c. search rules)
     (λ c. search rules)
-    (λ c. let l = c.before.before in omega (arith, column_is l, (start l).requires.few, l.loop.invariant.4))
+    (λ c. let l = c.before.before in omega (arith, column_is l, (start l).requires.few, l.loop-g.invariant.4))
     taken-columns-requires
     (λ c. search rules)
-    (λ c. let t = c.before.before.before.before.before in omega (arith, t.loop-test.true, width t.before, (start t.before).pre.secret_long))
+    (λ c. let t = c in omega (arith, t.loop-g-test.true, width t.before.before.before.before.before.before, (start t.before.before.before.before.before.before).requires.secret_long))
     (λ c. search rules)
     (λ c. search rules)
-    (λ c. let t = c.before.before.before in omega (arith, work_long t, column_is (loop t), (start (loop t)).pre.few))
+    (λ c. let t = c.before.before in omega (arith, work_long t, column_is (loop t), (start (loop t)).requires.few))
     (λ c. search rules)
     (λ c. search rules)
-    (λ c. let t = c.before.before.before.before in let l = loop t in omega (arith, columns_inside l t.before.before.before.loop-test.true, column_is l))
+    (λ c. let t = c.before.before.before in let l = loop t in omega (arith, columns_inside l t.loop-g-test.true, column_is l))
     (λ c κs. search rules)
     (λ c. search rules)
     (λ c. search rules)
     loop-again
-    (λ c. c.before.loop.invariant.0.long)
+    (λ c. c.loop-g.invariant.0.long)
     returns)

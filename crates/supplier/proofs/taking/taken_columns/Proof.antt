@@ -6,10 +6,10 @@ use Rattle.supplier.proofs.taking.taken_columns.Tie as tie
 
 returns : tie.Need-returns
 returns c =
-    let d = c.before.before in
-    let s = d.before.before.before.before.before.before.before.before.before in
-    zeros-added s.args.seeded s.args.rows s.args.session.now s.args.taken.now _ s.args.eight.now d.before.before.before.before.clear.ensures
-    d.add-set.ensures s.requires
+    let d = c in
+    let s = d in
+    zeros-added s.args.seeded s.args.rows s.args.session.now s.args.taken.now _ s.args.eight.now d.clear.ensures
+    d.add_set.ensures s.requires
 
-pub taken-columns-spec : {M : Type 1} → statement M
-taken-columns-spec = tie.close (tie.spec (λ c κs. search rules) (λ c κs. search rules) (λ c. search rules) returns)
+pub taken_columns_spec : {M : Type 1} → statement M
+taken_columns_spec = tie.close (tie.spec (λ c κs. search rules) (λ c κs. search rules) (λ c. search rules) returns)
