@@ -6,14 +6,14 @@ use lib.ListN.{length}
 use Rattle.cases.proofs.inputs.clear_padding.Statement.{statement}
 use Rattle.cases.proofs.inputs.clear_padding.Tie as tie
 
-abbrev invariant-loop : tie.invariant-loop
+abbrev invariant-loop : tie.invariant-loop-i
 invariant-loop set₀ bits mask k c i₀ at₀ set i at = (i ≤ k) × (k ≤ 256) × (c ≤ 8192) × (at ≤ i * 8192 + 8192) × (length set ≡ length set₀)
 
-abbrev decreases-loop : tie.decreases-loop
+abbrev decreases-loop : tie.decreases-loop-i
 decreases-loop set₀ bits mask k c i₀ at₀ set i at = k - i
 
-pub clear-padding-spec : {M : Type 1} → statement M
-clear-padding-spec =
+pub clear_padding_spec : {M : Type 1} → statement M
+clear_padding_spec =
     tie.close
     (tie.spec
     invariant-loop

@@ -6,14 +6,14 @@ use lib.ListN.{length}
 use Rattle.cases.proofs.inputs.set_all.Statement.{statement}
 use Rattle.cases.proofs.inputs.set_all.Tie as tie
 
-abbrev invariant-loop : tie.invariant-loop
+abbrev invariant-loop : tie.invariant-loop-p
 invariant-loop value len out₀ n p₀ out p = (p ≤ n) × (n ≤ length out₀) × (length out ≡ length out₀)
 
-abbrev decreases-loop : tie.decreases-loop
+abbrev decreases-loop : tie.decreases-loop-p
 decreases-loop value len out₀ n p₀ out p = n - p
 
-pub set-all-spec : {M : Type 1} → statement M
-set-all-spec =
+pub set_all_spec : {M : Type 1} → statement M
+set_all_spec =
     tie.close
     (tie.spec
     invariant-loop

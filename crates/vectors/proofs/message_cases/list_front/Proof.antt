@@ -5,11 +5,11 @@ use borrow.Author.Rules.{rules}
 use Rattle.vectors.proofs.message_cases.list_front.Statement.{statement}
 use Rattle.vectors.proofs.message_cases.list_front.Tie as tie
 
-slice-aggregate-list : tie.Need-slice-aggregate-list
+slice-aggregate-list : tie.Need-slice_bounds-list-end
 slice-aggregate-list c = simp length-take (omega arith)
 
-pub list-front-spec : {M : Type 1} → statement M
-list-front-spec =
+pub list_front_spec : {M : Type 1} → statement M
+list_front_spec =
     tie.close
     (tie.spec
     slice-aggregate-list

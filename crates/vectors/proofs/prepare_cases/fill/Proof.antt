@@ -8,17 +8,17 @@ use borrow.Author.Rules.{rules}
 use Rattle.vectors.proofs.prepare_cases.fill.Statement.{statement}
 use Rattle.vectors.proofs.prepare_cases.fill.Tie as tie
 
-abbrev invariant-loop : tie.invariant-loop
+abbrev invariant-loop : tie.invariant-loop-i
 invariant-loop start modulus out₀ i₀ out i = (i ≤ length out₀) × (length out ≡ length out₀) × (0 < modulus) × (modulus ≤ 256)
 
-abbrev decreases-loop : tie.decreases-loop
+abbrev decreases-loop : tie.decreases-loop-i
 decreases-loop start modulus out₀ i₀ out i = length out₀ - i
 
-cast-out : tie.Need-overflow-cast-out invariant-loop decreases-loop
+cast-out : tie.Need-overflow_cast-out invariant-loop decreases-loop
 cast-out c =
-    let a = c.before.before.before.before.args in
+    let a = c.args in
     let above : 0 < a.modulus = omega arith in
-    omega (arith, mod-lt (7 * (c.before.loop.i % 251) + a.start % 251) above)
+    omega (arith, mod-lt (7 * (c.loop-i.i % 251) + a.start % 251) above)
 
 pub fill_spec : {M : Type 1} → statement M
 fill_spec =

@@ -6,10 +6,10 @@ use borrow.Author.Rules.{rules}
 use Rattle.vectors.proofs.symmetric_cases.counted.Statement.{statement}
 use Rattle.vectors.proofs.symmetric_cases.counted.Tie as tie
 
-abbrev invariant-loop : tie.invariant-loop
+abbrev invariant-loop : tie.invariant-loop-i
 invariant-loop key₀ i₀ key i = (i ≤ 32) × (length key ≡ 32)
 
-abbrev decreases-loop : tie.decreases-loop
+abbrev decreases-loop : tie.decreases-loop-i
 decreases-loop key₀ i₀ key i = 32 - i
 
 pub counted_spec : {M : Type 1} → statement M

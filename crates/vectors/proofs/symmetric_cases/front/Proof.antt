@@ -5,8 +5,8 @@ use borrow.Author.Rules.{rules}
 use Rattle.vectors.proofs.symmetric_cases.front.Statement.{statement}
 use Rattle.vectors.proofs.symmetric_cases.front.Tie as tie
 
-slice-aggregate-result : tie.Need-slice-aggregate-result
+slice-aggregate-result : tie.Need-slice_bounds-result-end
 slice-aggregate-result c = simp length-take (omega arith)
 
-pub front-spec : {M : Type 1} → statement M
-front-spec = tie.close (tie.spec slice-aggregate-result (λ c. search rules) (λ c. search rules))
+pub front_spec : {M : Type 1} → statement M
+front_spec = tie.close (tie.spec slice-aggregate-result (λ c. search rules) (λ c. search rules))
