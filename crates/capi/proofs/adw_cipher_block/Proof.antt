@@ -5,7 +5,7 @@ use Rattle.capi.proofs.adw_cipher_block.Statement.{statement}
 use Rattle.capi.proofs.adw_cipher_block.Tie as tie
 
 returns : tie.Need-returns
-returns c = exported c.before.before.before.block.ensures c.number.ensures
+returns c = exported c.block.ensures c.number.ensures
 
-pub adw-cipher-block-spec : {M : Type 1} → statement M
-adw-cipher-block-spec = tie.close (tie.spec (λ c κs. search rules) (λ c κs. search rules) (λ c. search rules) returns)
+pub adw_cipher_block_spec : {M : Type 1} → statement M
+adw_cipher_block_spec = tie.close (tie.spec (λ c κs. search rules) (λ c κs. search rules) (λ c. search rules) returns)

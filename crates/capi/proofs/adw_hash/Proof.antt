@@ -5,7 +5,7 @@ use Rattle.capi.proofs.adw_hash.Statement.{statement}
 use Rattle.capi.proofs.adw_hash.Tie as tie
 
 returns : tie.Need-returns
-returns c = exported c.before.before.before.hash.ensures c.number.ensures
+returns c = exported c.hash.ensures c.number.ensures
 
-pub adw-hash-spec : {M : Type 1} → statement M
-adw-hash-spec = tie.close (tie.spec (λ c κs. search rules) (λ c κs. search rules) (λ c. search rules) returns)
+pub adw_hash_spec : {M : Type 1} → statement M
+adw_hash_spec = tie.close (tie.spec (λ c κs. search rules) (λ c κs. search rules) (λ c. search rules) returns)

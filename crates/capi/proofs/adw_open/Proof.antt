@@ -5,7 +5,7 @@ use Rattle.capi.proofs.adw_open.Statement.{statement}
 use Rattle.capi.proofs.adw_open.Tie as tie
 
 returns : tie.Need-returns
-returns c = exported c.before.before.before.open.ensures c.number.ensures
+returns c = exported c.open.ensures c.number.ensures
 
-pub adw-open-spec : {M : Type 1} → statement M
-adw-open-spec = tie.close (tie.spec (λ c κs. search rules) (λ c κs. search rules) (λ c. search rules) returns)
+pub adw_open_spec : {M : Type 1} → statement M
+adw_open_spec = tie.close (tie.spec (λ c κs. search rules) (λ c κs. search rules) (λ c. search rules) returns)

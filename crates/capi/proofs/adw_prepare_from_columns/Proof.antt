@@ -6,9 +6,9 @@ use Rattle.capi.proofs.adw_prepare_from_columns.Tie as tie
 
 returns : tie.Need-returns
 returns c =
-    let p = c.before.before.before.before.before.prepare-from-columns.ensures in
+    let p = c.prepare_from_columns.ensures in
     (exported p.sent c.number.ensures, exported p.rows c.number.ensures)
 
-pub adw-prepare-from-columns-spec : {M : Type 1} → statement M
-adw-prepare-from-columns-spec =
+pub adw_prepare_from_columns_spec : {M : Type 1} → statement M
+adw_prepare_from_columns_spec =
     tie.close (tie.spec (λ c κs. search rules) (λ c κs. search rules) (λ c. search rules) (λ c. search rules) returns)

@@ -6,9 +6,9 @@ use Rattle.capi.proofs.adw_prepare_from_seeds.Tie as tie
 
 returns : tie.Need-returns
 returns c =
-    let p = c.before.before.before.before.before.prepare-from-seeds.ensures in
+    let p = c.prepare_from_seeds.ensures in
     (exported p.sent c.number.ensures, exported p.rows c.number.ensures)
 
-pub adw-prepare-from-seeds-spec : {M : Type 1} → statement M
-adw-prepare-from-seeds-spec =
+pub adw_prepare_from_seeds_spec : {M : Type 1} → statement M
+adw_prepare_from_seeds_spec =
     tie.close (tie.spec (λ c κs. search rules) (λ c κs. search rules) (λ c. search rules) (λ c. search rules) returns)

@@ -7,38 +7,38 @@ use Rattle.exchange.proofs.Exchanged.{exchanged_prepare, exchanged_answer, excha
 use Rattle.exchange.proofs.exchanging.exchange.Statement.{statement}
 use Rattle.exchange.proofs.exchanging.exchange.Tie as tie
 
-returns : tie.Need-returns
+returns : tie.Need-returns-then-prepared-ne0
 returns c =
-    let p = c.before.before.before.before.before.before in
-    exchanged_prepare _ _ _ _ _ _ _ _ _ _ _ _ _ _ _ p.prepare-from-seeds.ensures c.if1.true
+    let p = c in
+    exchanged_prepare _ _ _ _ _ _ _ _ _ _ _ _ _ _ _ p.prepare_from_seeds-prepared.ensures c.if-prepared-ne0.true
 
-returns-2 : tie.Need-returns-2
+returns-2 : tie.Need-returns-then-answered-ne0
 returns-2 c =
-    let q = c.before.before.before.before in
-    let e = q.before.before.before.before in
-    let p = e.before.before.before.before.before.before in
-    let t = p.before.before.before.before.before in
-    exchanged_answer _ _ _ _ _ _ _ _ _ _ _ _ _ _ _ p.prepare-from-seeds.ensures t.take.ensures q.answer-from-seeds.ensures e.if1.false c.if2.true
+    let q = c in
+    let e = q in
+    let p = e in
+    let t = p in
+    exchanged_answer _ _ _ _ _ _ _ _ _ _ _ _ _ _ _ p.prepare_from_seeds-prepared.ensures t.take.ensures q.answer_from_seeds-answered.ensures e.if-prepared-ne0.false c.if-answered-ne0.true
 
-same-length-8 : tie.Need-same-length-8
+same-length-8 : tie.Need-shape_of-taken
 same-length-8 c =
-    let q = c.before.before.before.before.before.before.before.before.before.before in
-    let p = q.before.before.before.before.before.before.before.before.before.before in
-    let t = p.before.before.before.before.before in
+    let q = c in
+    let p = q in
+    let t = p in
     ap length t.take.ensures ∙ simp length-taken_set
 
-returns-3 : tie.Need-returns-3
+returns-3 : tie.Need-returns
 returns-3 c =
-    let o = c.before.before in
-    let f = o.before.before.before.before in
-    let q = f.before.before.before.before in
-    let e = q.before.before.before.before in
-    let p = e.before.before.before.before.before.before in
-    let t = p.before.before.before.before.before in
-    exchanged_open _ _ _ _ _ _ _ _ _ _ _ _ _ _ _ p.prepare-from-seeds.ensures t.take.ensures q.answer-from-seeds.ensures o.«open».ensures e.if1.false f.if2.false
+    let o = c in
+    let f = o in
+    let q = f in
+    let e = q in
+    let p = e in
+    let t = p in
+    exchanged_open _ _ _ _ _ _ _ _ _ _ _ _ _ _ _ p.prepare_from_seeds-prepared.ensures t.take.ensures q.answer_from_seeds-answered.ensures o.«open».ensures e.if-prepared-ne0.false f.if-answered-ne0.false
 
-pub exchange-spec : {M : Type 1} → statement M
-exchange-spec =
+pub exchange_spec : {M : Type 1} → statement M
+exchange_spec =
     tie.close
     (tie.spec
     (λ c κs. search rules)
