@@ -1,4 +1,4 @@
-// The reader as a struct that holds the message: thin functions over the walk, proved by hand.
+// The reader as a struct that holds the message: thin functions over the walk.
 ghost use Rattle.std.specs.Prelude.{◌≡◌};
 ghost use Rattle.reading.specs.Readers.{reader_of, ReaderStepped};
 
