@@ -21,8 +21,8 @@ use Rattle.buyer.specs.Prepare.{prepare_lengths, sets_padding, prepare_verdict}
 use Rattle.buyer.specs.Open.{open_lengths, open_verdict}
 
 -- the code of a verdict that equals another
-code_of : {v w : Verdict} → v ≡ w → v.code ≡ 0 → w.code ≡ 0
-code_of e z = sym (ap (λ (x : Verdict). x.code) e) ∙ z
+code_of_lem : {v w : Verdict} → v ≡ w → v.code ≡ 0 → w.code ≡ 0
+code_of_lem e z = sym (ap (λ (x : Verdict). x.code) e) ∙ z
 
 -- ---- lengths
 
@@ -39,7 +39,7 @@ pub lengths_passed : {v : Verdict} {seeded : Bool} {mode m session first second 
     → Lengths seeded mode m session first second selections message kept
 unfolding prepare_lengths
 lengths_passed {v} {seeded} {mode} {m} {session} {first} {second} {selections} {message} {kept} e z =
-    let a = unless_ok (eqb session 12) _ _ _ (omega arith) (code_of e z) in
+    let a = unless_ok (eqb session 12) _ _ _ (omega arith) (code_of_lem e z) in
     let b = unless_ok (eqb first (k_of mode * entry_bytes seeded m)) _ _ _ (omega arith) a.1 in
     let d = unless_ok (eqb second (k_of mode * entry_bytes seeded m)) _ _ _ (omega arith) b.1 in
     let f = unless_ok (eqb selections m) _ _ _ (omega arith) d.1 in
@@ -64,7 +64,7 @@ pub open_lengths_passed : {v : Verdict} {mode m l session selections kept opened
     → OpenLengths mode m l session selections kept opened
 unfolding open_lengths
 open_lengths_passed {v} {mode} {m} {l} {session} {selections} {kept} {opened} e z =
-    let a = unless_ok (eqb session 12) _ _ _ (omega arith) (code_of e z) in
+    let a = unless_ok (eqb session 12) _ _ _ (omega arith) (code_of_lem e z) in
     let b = unless_ok (eqb selections m) _ _ _ (omega arith) a.1 in
     let d = unless_ok (eqb kept (m * (k_of mode / 8))) _ _ _ (omega arith) b.1 in
     let f = unless_ok (eqb opened (m * l)) _ _ _ (omega arith) d.1 in
@@ -94,7 +94,7 @@ pub prepare_passed : {v : Verdict} {seeded : Bool} {mode m n l : ℕ} {session f
     → Prepares seeded mode m n l session first second selections message kept
 unfolding prepare_verdict
 prepare_passed {v} {seeded} {mode} {m} {n} {l} {session} {first} {second} {selections} {message} {kept} e z =
-    let a = or_else_ok (shape_verdict mode m n l) _ (code_of e z) in
+    let a = or_else_ok (shape_verdict mode m n l) _ (code_of_lem e z) in
     let b = or_else_ok (prepare_lengths seeded mode m (length session) (length first) (length second) (length selections) message kept) _ a.1 in
     let d = or_else_ok (selections_verdict m n selections) _ b.1 in
     record { shape = shape_ok mode m n l a.0; lengths = lengths_passed refl b.0; small = selections_passed m n selections d.0; clear = d.1 }
@@ -109,7 +109,7 @@ pub open_passed : {v : Verdict} {mode m n l : ℕ} {session selections kept mess
     → v ≡ open_verdict mode m n l session selections kept message opened → v.code ≡ 0 → Opens mode m n l session selections kept message opened
 unfolding open_verdict
 open_passed {v} {mode} {m} {n} {l} {session} {selections} {kept} {message} {opened} e z =
-    let a = or_else_ok (shape_verdict mode m n l) _ (code_of e z) in
+    let a = or_else_ok (shape_verdict mode m n l) _ (code_of_lem e z) in
     let b = or_else_ok (open_lengths mode m l (length session) (length selections) (length kept) opened) _ a.1 in
     let d = or_else_ok (selections_verdict m n selections) _ b.1 in
     record { shape = shape_ok mode m n l a.0; lengths = open_lengths_passed refl b.0; small = selections_passed m n selections d.0; arrived = d.1 }

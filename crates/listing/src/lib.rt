@@ -7,7 +7,7 @@ mod writing;
 pub use printing::list;
 
 // A text of `len` bytes, and zeros past it.
-#[derive(Drop)]
+#[derive(Clone, Copy)]
 pub struct Listing {
     pub text: [u8; 128],
     pub len: usize,

@@ -34,13 +34,13 @@ none_front (r ∷ rs) ss z = (z.0, none_front rs ss z.1)
 
 -- ---- one line
 
-code_of : {v : Verdict} {n p : ℕ} → v ≡ at n p → v.code ≡ n
-code_of e = ap (λ (x : Verdict). x.code) e
+code_of_lem : {v : Verdict} {n p : ℕ} → v ≡ at n p → v.code ≡ n
+code_of_lem e = ap (λ (x : Verdict). x.code) e
 
 pub decided_none : Decided [] pass
 decided_none = record {
   either = inl refl;
-  refused = λ n p pos. (λ e. let z : 0 ≡ n = code_of e in omega arith, λ t. absurd t);
+  refused = λ n p pos. (λ e. let z : 0 ≡ n = code_of_lem e in omega arith, λ t. absurd t);
   passed = (λ e. tt, λ z. refl);
 }
 
@@ -48,14 +48,14 @@ decided_none = record {
 pub decided_here : (r : Rule) (rs : List Rule) {v : Verdict} (p : ℕ) → r.given p → ((q : ℕ) → r.given q → q ≡ p) → 0 < r.number → v ≡ at r.number p
     → Decided (r ∷ rs) v
 decided_here r rs {v} p here only pos e =
-    let code : v.code ≡ r.number = code_of e in
+    let code : v.code ≡ r.number = code_of_lem e in
     record {
       either = inr (let h : 0 < v.code = omega arith in h);
       refused = λ n q h. (
-        λ f. inl (sym code ∙ code_of f, subst r.given (sym (ap (λ (x : Verdict). x.place) e) ∙ ap (λ (x : Verdict). x.place) f) here),
+        λ f. inl (sym code ∙ code_of_lem f, subst r.given (sym (ap (λ (x : Verdict). x.place) e) ∙ ap (λ (x : Verdict). x.place) f) here),
         ⊎_elim (λ g. e ∙ ap₂ at g.0 (sym (only q g.1))) (λ g. absurd (g.0 p here)),
       );
-      passed = (λ f. absurd (let z : v.code ≡ 0 = code_of f in omega arith), λ z. absurd (z.0 p here));
+      passed = (λ f. absurd (let z : v.code ≡ 0 = code_of_lem f in omega arith), λ z. absurd (z.0 p here));
     }
 
 -- it holds nowhere
@@ -102,7 +102,7 @@ pub decided_or_else : (rs ss : List Rule) {a b : Verdict} → Decided rs a → D
 unfolding or_else
 decided_or_else rs ss {a} {b} d e =
     ⊎_elim
-    (λ p. subst (Decided (rs ++ ss)) (sym (ap (λ (t : Bool). pick t b a) (eq-eqb a.code 0 (code_of p)))) (decided_on rs ss (d.passed.0 p) e))
+    (λ p. subst (Decided (rs ++ ss)) (sym (ap (λ (t : Bool). pick t b a) (eq-eqb a.code 0 (code_of_lem p)))) (decided_on rs ss (d.passed.0 p) e))
     (λ pos. subst (Decided (rs ++ ss)) (sym (ap (λ (t : Bool). pick t b a) (ne_eqb a.code 0 (λ z. let h : 0 < a.code = pos in omega arith)))) (front pos))
     d.either
   where
@@ -113,7 +113,7 @@ decided_or_else rs ss {a} {b} d e =
           either = inr pos;
           refused = λ n q h. (λ f. tried_append rs ss n q ((d.refused n q h).0 f), λ f. (d.refused n q h).1 (tried_front rs ss a.code a.place n q t f));
           passed = (
-            λ f. absurd (let z : a.code ≡ 0 = code_of f in omega arith),
+            λ f. absurd (let z : a.code ≡ 0 = code_of_lem f in omega arith),
             λ z. d.passed.1 (none_front rs ss z),
           );
         }

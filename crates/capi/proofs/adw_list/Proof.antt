@@ -18,15 +18,12 @@ text_long : (s : List ℕ) → length (listed s).text ≡ 128
 unfolding listed
 text_long s = simp (length-append, length-take, length-replicate) (omega arith)
 
-returns : tie.Need-returns-then-text-ne128
-returns c = (pick_failed _ (ne_eqb _ _ c.if-text-ne128.true) refl, pick_failed _ (ne_eqb _ _ c.if-text-ne128.true) refl)
-
 returns-2 : tie.Need-returns
 returns-2 c =
-    let l = c in
-    let is = l.list-l.ensures.is in
-    let whole = eq-eqb _ _ l.if-text-ne128.false in
-    let long = ap (λ (x : Listing). length x.text) is ∙ text_long _ ∙ sym l.if-text-ne128.false in (
+    let is = c.list-l.ensures.is in
+    let lent : length c.args.text.now ≡ 128 = omega arith in
+    let whole = eq-eqb (length c.args.text.now) 128 lent in
+    let long = ap (λ (x : Listing). length x.text) is ∙ text_long _ ∙ sym lent in (
       pick_passed _ whole (ap (λ (x : Listing). x.len) is),
       pick_passed _ whole (c.copy.ensures ∙ over_whole _ _ long ∙ ap (λ (x : Listing). x.text) is),
     )
@@ -34,4 +31,8 @@ returns-2 c =
 pub adw_list_spec : {M : Type 1} → statement M
 adw_list_spec =
     tie.close
-    (tie.spec returns (λ c κs. search rules) (λ c. search rules) (λ c κs. search rules) (λ c. search rules) returns-2)
+    (tie.spec
+    (λ c.
+    let other = ne_eqb (length c.args.text.now) 128 (λ e. absurd (omega arith)) in
+    (pick_failed _ other refl, pick_failed _ other refl))
+    (λ c κs. search rules) (λ c. search rules) (λ c κs. search rules) (λ c. search rules) returns-2)

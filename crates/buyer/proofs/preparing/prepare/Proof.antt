@@ -16,46 +16,40 @@ use Rattle.buyer.proofs.Prepared.{length-put, block-put, part_long, length-colum
 use Rattle.buyer.proofs.preparing.prepare.Statement.{statement}
 use Rattle.buyer.proofs.preparing.prepare.Tie as tie
 
-returns : tie.Need-returns-then-verdict-ne0
-returns c =
-    let v = c.judge_prepare-verdict.ensures in
-    record { sent = gives_old v c.if-verdict-ne0.true refl; rows = gives_old v c.if-verdict-ne0.true refl }
-
 -- what is known once nothing is refused
-ok : (x : tie.Else-verdict-ne0) → let a = x.args in
+-- what the verdict tells where it does not refuse
+ok : (x : tie.After-judge_prepare-verdict) → x.judge_prepare-verdict.result.code ≡ 0 → let a = x.args in
     Prepares a.seeded a.s.mode a.s.rows a.s.places a.s.bytes a.session.now a.first.now a.second.now a.selections.now
     (length a.message.now) (length a.kept.now)
-ok x = prepare_passed x.judge_prepare-verdict.ensures x.if-verdict-ne0.false
+ok x e = prepare_passed x.judge_prepare-verdict.ensures e
 
 put-header-requires : tie.Need-put_header-requires
 put-header-requires c κs =
-    let z = ok c.before in
+    let z = ok c.before.before.before (omega arith) in
     (z.lengths.session_long, omega (arith, z.lengths.message_long), omega (arith, z.lengths.message_long, z.shape.block_few))
 
 -- the message is as long with its header in it
 same : (h : tie.After-put_header)
     → length h.put_header.new.message ≡ length h.args.message.now
 same h =
-    let x = h.before.before in
-    let a = x.args in
-    let z = ok x in
+    let a = h.args in
+    let z = ok h.before.before.before.before (omega arith) in
     ap length h.put_header.ensures
     ∙ length-put a.message.now (header 3 (length a.message.now - 27) a.s.mode a.s.rows a.s.places a.s.bytes a.session.now)
     (length-header 3 (length a.message.now - 27) a.s.mode a.s.rows a.s.places a.s.bytes a.session.now z.lengths.session_long)
     (omega (arith, z.lengths.message_long))
 
 sub-fill : tie.Need-slice_bounds-fill-count
-sub-fill c = let h = c.before.before in omega (arith, same h, (ok h.before.before).lengths.message_long)
+sub-fill c = let h = c.before.before in omega (arith, same h, (ok h.before.before.before.before (omega arith)).lengths.message_long)
 
 part-fill-start : tie.Need-slice_bounds-fill-start
-part-fill-start c = let h = c.before.before in omega (arith, same h, (ok h.before.before).lengths.message_long)
+part-fill-start c = let h = c.before.before in omega (arith, same h, (ok h.before.before.before.before (omega arith)).lengths.message_long)
 
 fill-requires : tie.Need-fill-requires
 fill-requires c κs =
     let h = c.before.before.before.before in
-    let x = h.before.before in
-    let a = x.args in
-    let z = ok x in
+    let a = c.args in
+    let z = ok h.before.before.before.before (omega arith) in
     let block = part_long h.put_header.new.message (k_of a.s.mode * col_bytes a.s.rows) (same h ∙ z.lengths.message_long) in (
       set_fit_holds a.seeded (k_of a.s.mode) a.s.rows _ _ _
           (record { some = z.shape.rows-some; few = z.shape.rows_few; session_long = z.lengths.session_long; set_long = z.lengths.first_long; block_long = block }),
@@ -67,27 +61,25 @@ fill-requires c κs =
 
 returns-2 : tie.Need-returns
 returns-2 c =
-    let f = c in
-    let h = f in
-    let x = h.before.before.before.before.before.before.before.before.before.before.before in
-    let a = x.args in
-    let z = ok x in
-    let v = x.judge_prepare-verdict.ensures in
+    let a = c.args in
+    let passes : c.judge_prepare-verdict.result.code ≡ 0 = omega arith in
+    let z = ok c.before.before.before.before.before.before.before.before.before.before.before.before.before passes in
+    let v = c.judge_prepare-verdict.ensures in
     let len : ℕ = length a.message.now - 27 in
     let head : List ℕ = header 3 len a.s.mode a.s.rows a.s.places a.s.bytes a.session.now in
-    let block = f.fill.new.block in
+    let block = c.fill.new.block in
     let long : length block ≡ k_of a.s.mode * col_bytes a.s.rows =
-    ap length f.fill.ensures.0
+    ap length c.fill.ensures.0
     ∙ length-column_block a.seeded a.s.mode a.s.rows a.s.places a.s.bytes a.session.now a.first.now a.second.now a.selections.now
     z.lengths.first_long in
     record {
-      sent = gives_new v x.if-verdict-ne0.false
-          (block-put a.message.now head block h.put_header.ensures
+      sent = gives_new v passes
+          (block-put a.message.now head block c.put_header.ensures
           (length-header 3 len a.s.mode a.s.rows a.s.places a.s.bytes a.session.now z.lengths.session_long)
           (omega (arith, z.lengths.message_long)) (omega (arith, z.lengths.message_long))
           ∙ message_made a.seeded a.s.mode a.s.rows a.s.places a.s.bytes a.session.now a.first.now a.second.now a.selections.now len block
-          f.fill.ensures.0 (omega (arith, z.lengths.message_long)));
-      rows = gives_new v x.if-verdict-ne0.false f.fill.ensures.1;
+          c.fill.ensures.0 (omega (arith, z.lengths.message_long)));
+      rows = gives_new v passes c.fill.ensures.1;
     }
 
 pub prepare_spec : {M : Type 1} → statement M
@@ -95,7 +87,9 @@ prepare_spec =
     tie.close
     (tie.spec
     (λ c κs. search rules)
-    returns
+    (λ c.
+    let v = c.judge_prepare-verdict.ensures in
+    record { sent = gives_old v (λ e. absurd (omega arith)) refl; rows = gives_old v (λ e. absurd (omega arith)) refl })
     put-header-requires
     sub-fill
     part-fill-start

@@ -4,14 +4,9 @@ use mathlib.Core.List.{List, ◌++◌, append-nil}
 use Prim.Native.Nat.{ℕ}
 use Rattle.listing.proofs.Text.{joined, lead_there, lead_none}
 use borrow.Author.Rules.{rules}
+use native.Mathlib.Omega.{arith}
 use Rattle.listing.proofs.writing.put_lead.Statement.{statement}
 use Rattle.listing.proofs.writing.put_lead.Tie as tie
-
-returns : tie.Need-returns-then-unit-n
-returns c = λ s e. joined _ _ _ (c.push.ensures s e) (ap (λ (x : List ℕ). s ++ x) (lead_there c.args.unit c.args.n c.if-unit-n.true))
-
-returns-2 : tie.Need-returns-else-unit-n
-returns-2 c = λ s e. joined _ _ _ e (sym (append-nil s) ∙ ap (λ (x : List ℕ). s ++ x) (lead_none c.args.unit c.args.n c.if-unit-n.false))
 
 pub put_lead_spec : {M : Type 1} → statement M
 put_lead_spec =
@@ -21,5 +16,5 @@ put_lead_spec =
     (λ c. search rules)
     (λ c. search rules)
     (λ c κs. search rules)
-    returns
-    returns-2)
+    (λ c. λ s e. joined _ _ _ (c.push.ensures s e) (ap (λ (x : List ℕ). s ++ x) (lead_there c.args.unit c.args.n (omega arith))))
+    (λ c. λ s e. joined _ _ _ e (sym (append-nil s) ∙ ap (λ (x : List ℕ). s ++ x) (lead_none c.args.unit c.args.n (omega arith)))))

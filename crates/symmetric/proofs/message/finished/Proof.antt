@@ -8,14 +8,6 @@ use Rattle.symmetric.proofs.message.finished.Tie as tie
 rest_is : (m : List ℕ) → take (length m - length m / 64 * 64) (drop (length m / 64 * 64) m) ≡ drop (length m / 64 * 64) m
 rest_is m = take_all (length m - length m / 64 * 64) (drop (length m / 64 * 64) m) (simp length-drop (omega arith))
 
-returns : tie.Need-returns-then-input-at-lt56
-returns c = let c5 = c.before.before.before.before.before in
-    let m = c5.args.input.now in
-    let fits : length m % 64 < 56 = omega arith in
-    blocks_more (padded m) (length m / 64) c5.whole-h.ensures c.compressed.ensures
-    (c.put_size.ensures.1 ∙ ap (λ (b : List ℕ). take 56 b ++ be64 (8 * length m)) (marked_left m (rest_is m) c5.mark.ensures.1) ∙ block_short m fits)
-    ∙ sym (ap (blocks (padded m)) (count_short m fits))
-
 returns-2 : tie.Need-returns
 returns-2 c = let c4 = c.before.before.before.before in let c7 = c4.before.before.before in
     let m = c7.args.input.now in
@@ -28,5 +20,11 @@ pub finished_spec : {M : Type 1} → statement M
 finished_spec =
     tie.close
     (tie.spec (λ c κs. search rules) (λ c. search rules) (λ c. search rules) (λ c. search rules) (λ c. search rules)
-    (λ c κs. search rules) (λ c. search rules) (λ c κs. search rules) (λ c. search rules) (λ c κs. search rules) returns
+    (λ c κs. search rules) (λ c. search rules) (λ c κs. search rules) (λ c. search rules) (λ c κs. search rules)
+    (λ c. let c5 = c.before.before.before.before.before in
+    let m = c5.args.input.now in
+    let fits : length m % 64 < 56 = omega arith in
+    blocks_more (padded m) (length m / 64) c5.whole-h.ensures c.compressed.ensures
+    (c.put_size.ensures.1 ∙ ap (λ (b : List ℕ). take 56 b ++ be64 (8 * length m)) (marked_left m (rest_is m) c5.mark.ensures.1) ∙ block_short m fits)
+    ∙ sym (ap (blocks (padded m)) (count_short m fits)))
     (λ c. search rules) (λ c κs. search rules) (λ c κs. search rules) (λ c. search rules) (λ c κs. search rules) returns-2)

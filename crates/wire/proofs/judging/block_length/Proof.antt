@@ -12,18 +12,8 @@ use Rattle.wire.proofs.judging.block_length.Tie as tie
 mul-result : tie.Need-overflow_mul-result
 mul-result c = omega (arith, mul_le_both c.columns_of.result c.column_bytes.result 256 8192 c.columns_of.ensures.high (omega arith))
 
-returns : tie.Need-returns-then-tag-eq-TAG_COLUMNS
-unfolding block_length
-returns c = (
-  simp (eq-eqb _ _ c.if-tag-eq-TAG_COLUMNS.true) (ap₂ (λ (x y : ℕ). x * y) c.columns_of.ensures.is c.column_bytes.ensures),
-  omega (arith, mul_le_both c.columns_of.result c.column_bytes.result 256 8192 c.columns_of.ensures.high (omega arith)),
-)
-
-returns-2 : tie.Need-returns-else-tag-eq-TAG_COLUMNS
-unfolding block_length
-returns-2 c = (simp (ne_eqb _ _ c.if-tag-eq-TAG_COLUMNS.false) c.volume.ensures.0, c.volume.ensures.1)
-
 pub block_length_spec : {M : Type 1} → statement M
+unfolding block_length
 block_length_spec =
     tie.close
     (tie.spec
@@ -31,5 +21,8 @@ block_length_spec =
     (λ c κs. search rules)
     mul-result
     (λ c κs. search rules)
-    returns
-    returns-2)
+    (λ c. (
+      simp (eq-eqb c.args.tag 3 (omega arith)) (ap₂ (λ (x y : ℕ). x * y) c.columns_of.ensures.is c.column_bytes.ensures),
+      omega (arith, mul_le_both c.columns_of.result c.column_bytes.result 256 8192 c.columns_of.ensures.high (omega arith)),
+    ))
+    (λ c. (simp (ne_eqb c.args.tag 3 (λ e. absurd (omega arith))) c.volume.ensures.0, c.volume.ensures.1)))

@@ -9,30 +9,27 @@ use borrow.Author.Rules.{rules}
 use Rattle.wire.proofs.writing.write_header.Statement.{statement}
 use Rattle.wire.proofs.writing.write_header.Tie as tie
 
-returns : tie.Need-returns-then-session-ne-SESSION_BYTES
-unfolding header_written
-returns c = sym (rw (ne_eqb (length c.args.session.now) 12 c.if-session-ne-SESSION_BYTES.true))
-
 returns-2 : tie.Need-returns-then-out-ne-BLOCK_AT
 unfolding header_written
-returns-2 c = sym (rw (eq-eqb (length c.args.session.now) 12 c.if-session-ne-SESSION_BYTES.false, ne_eqb (length c.args.out.now) 27 c.if-out-ne-BLOCK_AT.true))
+returns-2 c = sym (rw (eq-eqb (length c.args.session.now) 12 (omega arith), ne_eqb (length c.args.out.now) 27 c.if-out-ne-BLOCK_AT.true))
 
 returns-3 : tie.Need-returns-then-len-gt-MOST_LENGTH
 unfolding header_written
-returns-3 c = sym (rw (eq-eqb (length c.args.session.now) 12 c.if-session-ne-SESSION_BYTES.false, eq-eqb (length c.args.out.now) 27 c.if-out-ne-BLOCK_AT.false, le-ltb c.args.len 65536 c.if-len-gt-MOST_LENGTH.true))
+returns-3 c = sym (rw (eq-eqb (length c.args.session.now) 12 (omega arith), eq-eqb (length c.args.out.now) 27 c.if-out-ne-BLOCK_AT.false, le-ltb c.args.len 65536 c.if-len-gt-MOST_LENGTH.true))
 
 returns-4 : tie.Need-returns
 unfolding header
 returns-4 c =
     let a = c.args in
-    three_parts a.out.now c.if-out-ne-BLOCK_AT.false c.put.ensures c.put-2.ensures c.put-3.ensures refl c.if-session-ne-SESSION_BYTES.false refl
-    ∙ sym (header-written _ _ _ _ _ _ a.session.now a.out.now c.if-session-ne-SESSION_BYTES.false c.if-out-ne-BLOCK_AT.false (omega arith))
+    three_parts a.out.now c.if-out-ne-BLOCK_AT.false c.put.ensures c.put-2.ensures c.put-3.ensures refl (omega arith) refl
+    ∙ sym (header-written _ _ _ _ _ _ a.session.now a.out.now (omega arith) c.if-out-ne-BLOCK_AT.false (omega arith))
 
 pub write_header_spec : {M : Type 1} → statement M
+unfolding header_written
 write_header_spec =
     tie.close
     (tie.spec
-    returns
+    (λ c. sym (rw (ne_eqb (length c.args.session.now) 12 (λ e. absurd (omega arith)))))
     returns-2
     returns-3
     (λ c. search rules)
