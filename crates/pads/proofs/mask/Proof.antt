@@ -21,12 +21,11 @@ pad-requires c κs = let f = fits c in (f.session_long, f.row_few)
 returns : tie.Need-returns-then-pad_fit
 unfolding pad_masked
 returns c =
-    let made = c in
-    let t = made.before.before.before.before.before.before in
+    let t = c.before.before.before.before.before.before in
     let a = t.args in
     pick_passed _ (sym t.pad_fit.ensures ∙ t.if-pad_fit.true)
     (c.xor_into.ensures
-    ∙ ap (λ (x : List ℕ). a.string.now ⊕ x) made.pad-bytes.ensures ∙ pad_front a.session.now a.j a.row.now a.string.now (fits t).pad_few)
+    ∙ ap (λ (x : List ℕ). a.string.now ⊕ x) c.pad-bytes.ensures ∙ pad_front a.session.now a.j a.row.now a.string.now (fits t).pad_few)
 
 returns-2 : tie.Need-returns-else-pad_fit
 unfolding pad_masked

@@ -9,19 +9,16 @@ use Rattle.pads.proofs.pad.Statement.{statement}
 use Rattle.pads.proofs.pad.Tie as tie
 
 put-input-requires : tie.Need-put_input-requires
-put-input-requires c κs = let s = c in (s.requires.0, s.requires.1, refl, refl)
+put-input-requires c κs = (c.requires.0, c.requires.1, refl, refl)
 
 part-hash-end : tie.Need-slice_bounds-hash-end
 part-hash-end c = omega (arith, c.requires.1, c.input-2-1.given)
 
 returns : tie.Need-returns
 returns c =
-    let hashed = c in
-    let put = hashed in
-    let s = put in
-    let a = s.args in
-    pad_digest a.session.now a.j a.row.now (16 + length a.row.now) _ put.put_input.ensures
-    (hash_passed hashed.hash.ensures (simp length-take (omega (arith, s.requires.1))))
+    let a = c.args in
+    pad_digest a.session.now a.j a.row.now (16 + length a.row.now) _ c.put_input.ensures
+    (hash_passed c.hash.ensures (simp length-take (omega (arith, c.requires.1))))
 
 pub pad_spec : {M : Type 1} → statement M
 pad_spec =

@@ -9,12 +9,8 @@ use Rattle.pads.proofs.put_input.Tie as tie
 
 returns : tie.Need-returns
 returns c =
-    let third = c in
-    let second = third in
-    let first = second in
-    let s = first in
-    three_parts s.args.input.now s.args.session.now _ _ _ s.requires.3 first.copy.ensures second.copy-2.ensures s.requires.0 refl
-    (simp (length-take, length-drop) (omega arith)) (simp (length-take, length-drop) (omega arith)) s.args.row.now s.requires.1 third.xor_into.ensures
+    three_parts c.args.input.now c.args.session.now _ _ _ c.requires.3 c.copy.ensures c.copy-2.ensures c.requires.0 refl
+    (simp (length-take, length-drop) (omega arith)) (simp (length-take, length-drop) (omega arith)) c.args.row.now c.requires.1 c.xor_into.ensures
 
 pub put_input_spec : {M : Type 1} → statement M
 put_input_spec =

@@ -19,12 +19,10 @@ decreases-loop mode rows selections block₀ c b₀ block b = c - b
 
 add-eight-requires : tie.Need-add_eight-requires invariant-loop decreases-loop
 add-eight-requires c κs =
-    let l = c in
-    let s = l in
-    let e = l.column_bytes-c.ensures in (
+    let e = c.column_bytes-c.ensures in (
       c.loop-b-test.true,
       omega (arith, e),
-      l.loop-b.invariant.0.long ∙ s.requires.1 ∙ ap (λ (x : ℕ). k (code_of s.args.mode) * x) (sym e),
+      c.loop-b.invariant.0.long ∙ c.requires.1 ∙ ap (λ (x : ℕ). k (code_of c.args.mode) * x) (sym e),
     )
 
 add-b : tie.Need-overflow_add-b invariant-loop decreases-loop
@@ -32,21 +30,17 @@ add-b c = search rules
 
 loop-again : tie.Need-loop-b-preserved invariant-loop decreases-loop
 loop-again c =
-    let l = c in
-    let s = l in
-    let a = s.args in
-    let f : ℕ → ℕ = place_byte (code_of a.mode) a.selections.now (l.loop-b.b * 8) in (
-      below_more f l.loop-b.invariant.0
-          (c.add_eight.ensures ∙ ap (λ (x : ℕ). added_bytes x l.loop-b.b f l.loop-b.block) l.column_bytes-c.ensures)
-          (λ p h e. chosen_at a.mode a.rows a.selections.now s.requires.0 l.loop-b.b p (omega (arith, s.requires.1)) e),
+    let a = c.args in
+    let f : ℕ → ℕ = place_byte (code_of a.mode) a.selections.now (c.loop-b.b * 8) in (
+      below_more f c.loop-b.invariant.0
+          (c.add_eight.ensures ∙ ap (λ (x : ℕ). added_bytes x c.loop-b.b f c.loop-b.block) c.column_bytes-c.ensures)
+          (λ p h e. chosen_at a.mode a.rows a.selections.now c.requires.0 c.loop-b.b p (omega (arith, c.requires.1)) e),
       omega arith,
     )
 
 returns : tie.Need-returns invariant-loop decreases-loop
 returns c =
-    let l = c in
-    let s = l in
-    below_end (k (code_of s.args.mode)) l.loop-b.invariant.0 (omega (arith, l.column_bytes-c.ensures)) s.requires.1
+    below_end (k (code_of c.args.mode)) c.loop-b.invariant.0 (omega (arith, c.column_bytes-c.ensures)) c.requires.1
 
 pub add_chosen_spec : {M : Type 1} → statement M
 add_chosen_spec =

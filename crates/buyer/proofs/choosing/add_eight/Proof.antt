@@ -12,22 +12,20 @@ use Rattle.buyer.proofs.choosing.add_eight.Tie as tie
 
 add-table-requires : tie.Need-add_table-requires
 add-table-requires c κs =
-    let s = c in
     let n = c.columns_of in (
-      s.requires.0,
-      s.requires.1,
+      c.requires.0,
+      c.requires.1,
       n.ensures.high,
       omega (arith, n.ensures.high, c.fill_table.ensures.long),
-      s.requires.2 ∙ sym (ap (λ (x : ℕ). x * s.args.c) (n.ensures.is ∙ k_of_lem s.args.mode)),
+      c.requires.2 ∙ sym (ap (λ (x : ℕ). x * c.args.c) (n.ensures.is ∙ k_of_lem c.args.mode)),
     )
 
 returns : tie.Need-returns
 returns c =
-    let s = c in
-    let a = s.args in
+    let a = c.args in
     let f = c.fill_table in
     c.add_table.ensures
-    ∙ added_ext a.c a.b (k (code_of a.mode)) _ (place_byte (code_of a.mode) a.selections.now (a.b * 8)) a.block.now s.requires.2
+    ∙ added_ext a.c a.b (k (code_of a.mode)) _ (place_byte (code_of a.mode) a.selections.now (a.b * 8)) a.block.now c.requires.2
     (begins_at f.ensures)
 
 pub add_eight_spec : {M : Type 1} → statement M

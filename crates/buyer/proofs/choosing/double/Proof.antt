@@ -24,19 +24,18 @@ shl-half : tie.Need-overflow_shl-half invariant-loop decreases-loop
 shl-half c = search rules
 
 places-requires : tie.Need-places-requires invariant-loop decreases-loop
-places-requires c κs = let s = c in (rw (half_is s.args.t s.requires.0).0 s.requires.1, s.requires.2)
+places-requires c κs = (rw (half_is c.args.t c.requires.0).0 c.requires.1, c.requires.2)
 
 slice-read-turn : tie.Need-bounds-table-0 invariant-loop decreases-loop
 slice-read-turn c = search rules
 
 loop-holds : tie.Need-loop-x-init invariant-loop decreases-loop
 loop-holds c =
-    let s = c in
-    let a = s.args in
+    let a = c.args in
     let f = place_byte (code_of a.mode) a.selections.now a.j in
-    let (is, few) = half_is a.t s.requires.0 in
-    let front : Filled f (2 ^ a.t) a.table.now a.table.now = filled_front refl (omega (arith, s.requires.3.long)) s.requires.3.front in (
-      filled_front (omega arith) (omega (arith, s.requires.3.long)) s.requires.3.front,
+    let (is, few) = half_is a.t c.requires.0 in
+    let front : Filled f (2 ^ a.t) a.table.now a.table.now = filled_front refl (omega (arith, c.requires.3.long)) c.requires.3.front in (
+      filled_front (omega arith) (omega (arith, c.requires.3.long)) c.requires.3.front,
       omega arith,
       is,
       omega arith,
@@ -60,17 +59,15 @@ loop-less c = search rules
 
 loop-again : tie.Need-loop-x-preserved invariant-loop decreases-loop
 loop-again c =
-    let l = c in
-    let s = l in
-    let a = s.args in
+    let a = c.args in
     let f = place_byte (code_of a.mode) a.selections.now a.j in (
-      filled_step l.loop-x.invariant.0 (omega arith) (omega (arith, s.requires.3.long))
-          (ap₂ bit_xor (filled_new l.loop-x.invariant.0 l.loop-x.x (omega arith)) l.loop-x.invariant.4
-          ∙ sym (ap (λ (h : ℕ). f (h + l.loop-x.x)) l.loop-x.invariant.2 ∙ place_turned a.mode a.selections.now a.j a.t l.loop-x.x (omega arith))),
+      filled_step c.loop-x.invariant.0 (omega arith) (omega (arith, c.requires.3.long))
+          (ap₂ bit_xor (filled_new c.loop-x.invariant.0 c.loop-x.x (omega arith)) c.loop-x.invariant.4
+          ∙ sym (ap (λ (h : ℕ). f (h + c.loop-x.x)) c.loop-x.invariant.2 ∙ place_turned a.mode a.selections.now a.j a.t c.loop-x.x (omega arith))),
       omega arith,
-      l.loop-x.invariant.2,
-      l.loop-x.invariant.3,
-      l.loop-x.invariant.4,
+      c.loop-x.invariant.2,
+      c.loop-x.invariant.3,
+      c.loop-x.invariant.4,
     )
 
 same_length : tie.Need-shape_of-table invariant-loop decreases-loop
@@ -78,8 +75,7 @@ same_length c = c.loop-x.invariant.0.long
 
 returns : tie.Need-returns invariant-loop decreases-loop
 returns c =
-    let l = c in
-    record { long = l.loop-x.invariant.0.long ∙ l.requires.3.long; front = front_filled l.loop-x.invariant.0 (omega arith) }
+    record { long = c.loop-x.invariant.0.long ∙ c.requires.3.long; front = front_filled c.loop-x.invariant.0 (omega arith) }
 
 pub double_spec : {M : Type 1} → statement M
 double_spec =

@@ -20,31 +20,29 @@ places-requires : tie.Need-places-requires invariant-loop decreases-loop
 places-requires c κs = (rw (sym c.doublings-most.ensures.0) (pow_pos c.doublings-most.result), c.requires.0)
 
 loop-holds : tie.Need-loop-t-init invariant-loop decreases-loop
-loop-holds c = let s = c in (begins_one (code_of s.args.mode) s.args.selections.now s.args.j _ s.args.table.now s.requires.1 c.places.ensures, omega arith)
+loop-holds c = (begins_one (code_of c.args.mode) c.args.selections.now c.args.j _ c.args.table.now c.requires.1 c.places.ensures, omega arith)
 
 double-requires : tie.Need-double-requires invariant-loop decreases-loop
 double-requires c κs =
-    let l = c in
-    let d = l.doublings-most in (
+    let d = c.doublings-most in (
       omega (arith, d.ensures.1),
       rw (sym d.ensures.0) (pow-lt c.loop-t-test.true),
-      l.requires.0,
-      l.loop-t.invariant.0,
+      c.requires.0,
+      c.loop-t.invariant.0,
     )
 
 loop-again : tie.Need-loop-t-preserved invariant-loop decreases-loop
-loop-again c = let l = c in (begins_twice l.loop-t.t c.double.ensures, omega arith)
+loop-again c = (begins_twice c.loop-t.t c.double.ensures, omega arith)
 
 same_length : tie.Need-shape_of-table invariant-loop decreases-loop
 same_length c = c.loop-t.invariant.0.long ∙ sym c.requires.1
 
 returns : tie.Need-returns invariant-loop decreases-loop
 returns c =
-    let l = c in
-    let d = l.doublings-most in
-    let all : l.loop-t.t ≡ d.result = omega arith in
-    let whole : 2 ^ l.loop-t.t ≡ k (code_of l.args.mode) = ap (λ (x : ℕ). 2 ^ x) all ∙ d.ensures.0 in
-    rw whole at l.loop-t.invariant.0
+    let d = c.doublings-most in
+    let all : c.loop-t.t ≡ d.result = omega arith in
+    let whole : 2 ^ c.loop-t.t ≡ k (code_of c.args.mode) = ap (λ (x : ℕ). 2 ^ x) all ∙ d.ensures.0 in
+    rw whole at c.loop-t.invariant.0
 
 pub fill_table_spec : {M : Type 1} → statement M
 fill_table_spec =

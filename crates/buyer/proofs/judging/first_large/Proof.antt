@@ -21,9 +21,8 @@ loop-again c = passed_more c.loop-j.invariant (search rules) (lt-leb _ _ c.if-n-
 
 returns : tie.Need-returns-then-m-j invariant-loop decreases-loop
 returns c =
-    let l = c in
-    let all : l.args.m ≡ l.loop-j.j = omega (arith, l.loop-j.invariant.within) in
-    all ∙ passed_end l.loop-j.invariant (search rules)
+    let all : c.args.m ≡ c.loop-j.j = omega (arith, c.loop-j.invariant.within) in
+    all ∙ passed_end c.loop-j.invariant (search rules)
 
 returns-2 : tie.Need-returns-then-n-selections invariant-loop decreases-loop
 unfolding too_large

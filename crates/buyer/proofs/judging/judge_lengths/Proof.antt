@@ -33,7 +33,6 @@ add-refuse-unless c =
 returns : tie.Need-returns
 unfolding prepare_lengths
 returns c =
-    let sizes = c in
     rw (
       c.refuse_unless.ensures,
       c.refuse_unless-v2.ensures,
@@ -41,9 +40,9 @@ returns c =
       c.refuse_unless-v4.ensures,
       c.refuse_unless-v5.ensures,
       c.refuse_unless-v6.ensures,
-      sizes.column_bytes.ensures,
-      sizes.entry_bytes.ensures.0,
-      sizes.columns_of-k.ensures.is,
+      c.column_bytes.ensures,
+      c.entry_bytes.ensures.0,
+      c.columns_of-k.ensures.is,
     )
 
 pub judge_lengths_spec : {M : Type 1} → statement M

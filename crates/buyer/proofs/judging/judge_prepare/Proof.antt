@@ -13,8 +13,7 @@ returns c = stop _ c.judge_shape-shape.ensures c.if-shape-ne0.true
 returns-2 : tie.Need-returns-then-lengths-ne0
 unfolding prepare_verdict
 returns-2 c =
-    let shape = c in
-    go shape.judge_shape-shape.ensures shape.if-shape-ne0.false (stop _ c.judge_lengths-lengths.ensures c.if-lengths-ne0.true)
+    go c.judge_shape-shape.ensures c.if-shape-ne0.false (stop _ c.judge_lengths-lengths.ensures c.if-lengths-ne0.true)
 
 judge-selections-requires : tie.Need-judge_selections-large-requires
 judge-selections-requires c κs = (lengths_passed c.judge_lengths-lengths.ensures c.if-lengths-ne0.false).selections_long
@@ -22,20 +21,15 @@ judge-selections-requires c κs = (lengths_passed c.judge_lengths-lengths.ensure
 returns-3 : tie.Need-returns-then-large-ne0
 unfolding prepare_verdict
 returns-3 c =
-    let lengths = c in
-    let shape = lengths in
-    go shape.judge_shape-shape.ensures shape.if-shape-ne0.false
-    (go lengths.judge_lengths-lengths.ensures lengths.if-lengths-ne0.false (stop _ c.judge_selections-large.ensures c.if-large-ne0.true))
+    go c.judge_shape-shape.ensures c.if-shape-ne0.false
+    (go c.judge_lengths-lengths.ensures c.if-lengths-ne0.false (stop _ c.judge_selections-large.ensures c.if-large-ne0.true))
 
 returns-4 : tie.Need-returns
 unfolding prepare_verdict
 returns-4 c =
-    let large = c in
-    let lengths = large in
-    let shape = lengths in
-    go shape.judge_shape-shape.ensures shape.if-shape-ne0.false
-    (go lengths.judge_lengths-lengths.ensures lengths.if-lengths-ne0.false
-    (go large.judge_selections-large.ensures large.if-large-ne0.false c.judge_sets.ensures))
+    go c.judge_shape-shape.ensures c.if-shape-ne0.false
+    (go c.judge_lengths-lengths.ensures c.if-lengths-ne0.false
+    (go c.judge_selections-large.ensures c.if-large-ne0.false c.judge_sets.ensures))
 
 pub judge_prepare_spec : {M : Type 1} → statement M
 judge_prepare_spec =

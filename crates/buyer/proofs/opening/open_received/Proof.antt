@@ -55,9 +55,8 @@ open-rows-requires c κs =
 returns-2 : tie.Need-returns
 unfolding opened_strings
 returns-2 c =
-    let x = c in
-    let a = x.args in
-    gives_new x.judge_open-verdict.ensures x.if-verdict-ne0.false
+    let a = c.args in
+    gives_new c.judge_open-verdict.ensures c.if-verdict-ne0.false
     (c.open_rows.ensures
     ∙ ap (opened_rows a.s.mode a.s.rows a.s.places a.s.bytes a.session.now a.selections.now a.kept.now) (part_all a.received.now))
 

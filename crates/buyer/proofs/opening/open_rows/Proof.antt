@@ -23,10 +23,8 @@ open-selected-requires c κs =
 
 returns : tie.Need-returns
 returns c =
-    let d = c in
-    let s = d in
-    let a = s.args in
-    let f = s.requires in
+    let a = c.args in
+    let f = c.requires in
     let fits : Fits a.s.rows a.s.places a.s.bytes (length a.selections.now) (length a.strings.now) (length a.opened.now)
     = record {
       rows_few = omega arith;
@@ -40,7 +38,7 @@ returns c =
     } in
     c.open_selected.ensures
     ∙ ap (opened_selected a.s.mode a.s.rows a.s.bytes a.session.now a.kept.now)
-    (d.select.ensures ∙ selected_over_fits a.s.rows a.s.places a.s.bytes a.selections.now a.strings.now a.opened.now fits)
+    (c.select.ensures ∙ selected_over_fits a.s.rows a.s.places a.s.bytes a.selections.now a.strings.now a.opened.now fits)
     ∙ selected-opened a.s.mode a.s.rows a.s.places a.s.bytes a.session.now a.selections.now a.kept.now a.strings.now f.small
 
 pub open_rows_spec : {M : Type 1} → statement M

@@ -35,18 +35,16 @@ module _ (l : tie.At-loop-j invariant-loop decreases-loop) where
 
 loop-again : tie.Need-loop-j-preserved invariant-loop decreases-loop
 loop-again c =
-    let d = c in
-    let t = d in
-    let l = t.before.before.before.before.before.before in
+    let l = c.before.before.before.before.before.before in
     let s = start l in
     let a = s.args in
-    let h = t.loop-j-test.true in
+    let h = c.loop-j-test.true in
     let row = lent_long a.kept.now l.loop-j.b (width l) (kept_in l h) in
     let string = lent_long l.loop-j.strings l.loop-j.a a.s.bytes (omega (arith, string_in l h, l.loop-j.invariant.0.long)) in
     let row-size : l.loop-j.b + width l - l.loop-j.b ≡ width l = omega arith in
     let size : l.loop-j.a + a.s.bytes - l.loop-j.a ≡ a.s.bytes = omega arith in (
       filled_part a.s.bytes l.loop-j.invariant.0 refl (string_in l h)
-          (d.mask.ensures
+          (c.mask.ensures
           ∙ pad_masked_fit a.session.now l.loop-j.j _ _ s.requires.session_long (omega (arith, row, l.row_bytes-w.ensures.high)) (omega (arith, string, s.requires.bytes_few))
           ∙ row_opened a.session.now (width l) a.s.bytes a.kept.now a.strings.now l.loop-j.j l.loop-j.a l.loop-j.invariant.2 string string
           (ap₂ take size (filled_drop l.loop-j.invariant.0))

@@ -13,20 +13,15 @@ use Rattle.buyer.proofs.preparing.fill.Tie as tie
 
 returns : tie.Need-returns
 returns c =
-    let set = c in
-    let n = set in
-    let g = n in
-    let p = g in
-    let s = p in
-    let a = s.args in
-    let cols = p.put_second.ensures in (
-      set-added a.seeded a.mode a.rows a.session.now a.first.now a.block.now s.requires.0 n.columns_of.result _ n.columns_of.ensures.is
-          (ap length cols ∙ length-kept_columns a.seeded a.mode a.rows a.session.now a.second.now a.selections.now a.block.now s.requires.1)
-          set.add_set.ensures
+    let a = c.args in
+    let cols = c.put_second.ensures in (
+      set-added a.seeded a.mode a.rows a.session.now a.first.now a.block.now c.requires.0 c.columns_of.result _ c.columns_of.ensures.is
+          (ap length cols ∙ length-kept_columns a.seeded a.mode a.rows a.session.now a.second.now a.selections.now a.block.now c.requires.1)
+          c.add_set.ensures
           ∙ ap (λ (x : List ℕ). x ⊕ columns_of a.seeded (k_of a.mode) a.rows a.session.now a.first.now) cols
-          ∙ block_sent a.seeded a.mode a.rows a.session.now a.second.now a.selections.now a.block.now s.requires.1 a.first.now s.requires.0,
-      rows-kept a.seeded a.mode a.rows a.session.now a.second.now a.selections.now a.block.now s.requires.1 _ a.kept.now cols s.requires.3
-          g.gather_rows.ensures,
+          ∙ block_sent a.seeded a.mode a.rows a.session.now a.second.now a.selections.now a.block.now c.requires.1 a.first.now c.requires.0,
+      rows-kept a.seeded a.mode a.rows a.session.now a.second.now a.selections.now a.block.now c.requires.1 _ a.kept.now cols c.requires.3
+          c.gather_rows.ensures,
     )
 
 pub fill_spec : {M : Type 1} → statement M

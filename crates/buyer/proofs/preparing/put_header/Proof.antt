@@ -12,12 +12,10 @@ use Rattle.buyer.proofs.preparing.put_header.Tie as tie
 
 returns : tie.Need-returns
 returns c =
-    let h = c in
-    let s = h in
-    let a = s.args in
-    header-put a.message.now h.write_header.new.out
+    let a = c.args in
+    header-put a.message.now c.write_header.new.out
     ∙ ap (λ (x : List ℕ). x ++ drop 27 a.message.now)
-    (h.write_header.ensures ∙ header-written 3 _ a.s.mode a.s.rows a.s.places a.s.bytes a.session.now _ s.requires.0 (simp (length-take, length-drop) (omega arith)) (omega arith))
+    (c.write_header.ensures ∙ header-written 3 _ a.s.mode a.s.rows a.s.places a.s.bytes a.session.now _ c.requires.0 (simp (length-take, length-drop) (omega arith)) (omega arith))
 
 pub put_header_spec : {M : Type 1} → statement M
 put_header_spec =

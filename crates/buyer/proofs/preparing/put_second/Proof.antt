@@ -16,30 +16,22 @@ use Rattle.buyer.proofs.preparing.put_second.Tie as tie
 
 add-chosen-requires : tie.Need-add_chosen-requires
 add-chosen-requires c κs =
-    let set = c in
-    let n = set in
-    let zero = n in
-    let s = zero in
-    let a = s.args in (
-      s.requires.1,
-      ap length (set_alone a.seeded a.mode a.rows a.session.now a.second.now a.block.now s.requires.0
-          n.columns_of.result _ n.columns_of.ensures.is zero.clear.ensures set.add_set.ensures)
-          ∙ set_long a.seeded a.mode a.rows a.session.now a.second.now a.block.now s.requires.0
+    let a = c.args in (
+      c.requires.1,
+      ap length (set_alone a.seeded a.mode a.rows a.session.now a.second.now a.block.now c.requires.0
+          c.columns_of.result _ c.columns_of.ensures.is c.clear.ensures c.add_set.ensures)
+          ∙ set_long a.seeded a.mode a.rows a.session.now a.second.now a.block.now c.requires.0
           ∙ ap (λ (x : ℕ). x * col_bytes a.rows) (k_of_lem a.mode),
     )
 
 returns : tie.Need-returns
 unfolding kept_columns
 returns c =
-    let set = c in
-    let n = set in
-    let zero = n in
-    let s = zero in
-    let a = s.args in
+    let a = c.args in
     c.add_chosen.ensures
     ∙ ap (λ (x : List ℕ). x ⊕ chosen (code_of a.mode) a.rows a.selections.now)
-    (set_alone a.seeded a.mode a.rows a.session.now a.second.now a.block.now s.requires.0
-    n.columns_of.result _ n.columns_of.ensures.is zero.clear.ensures set.add_set.ensures)
+    (set_alone a.seeded a.mode a.rows a.session.now a.second.now a.block.now c.requires.0
+    c.columns_of.result _ c.columns_of.ensures.is c.clear.ensures c.add_set.ensures)
 
 pub put_second_spec : {M : Type 1} → statement M
 put_second_spec =

@@ -15,23 +15,20 @@ use Rattle.supplier.proofs.answering.write_masked.Tie as tie
 returns : tie.Need-returns
 unfolding message_of
 returns c =
-    let masked = c in
-    let headed = masked in
-    let s = headed in
-    let a = s.args in
-    let f = s.requires.0 in
+    let a = c.args in
+    let f = c.requires.0 in
     let block : List ℕ = masked_strings a.s.mode a.s.rows a.s.places a.s.bytes a.session.now a.secret.now a.rows.now a.strings.now in
     let long : length block ≡ length a.strings.now
     = length_masked a.s.mode a.s.rows a.s.places a.s.bytes a.session.now a.secret.now a.rows.now a.strings.now ∙ sym f.strings_long in
-    let head : headed.write_header.new.out ≡ header 4 (length block) a.s.mode a.s.rows a.s.places a.s.bytes a.session.now
-    = headed.write_header.ensures
+    let head : c.write_header.new.out ≡ header 4 (length block) a.s.mode a.s.rows a.s.places a.s.bytes a.session.now
+    = c.write_header.ensures
     ∙ header-written 4 (length a.strings.now) a.s.mode a.s.rows a.s.places a.s.bytes a.session.now (take 27 (drop 0 a.message.now)) f.session_long
-    (simp (length-take, length-drop) (omega (arith, s.requires.1))) s.requires.2
+    (simp (length-take, length-drop) (omega (arith, c.requires.1))) c.requires.2
     ∙ ap (λ (n : ℕ). header 4 n a.s.mode a.s.rows a.s.places a.s.bytes a.session.now) (sym long) in
-    two_parts a.message.now headed.write_header.new.out masked.mask_strings.new.out
+    two_parts a.message.now c.write_header.new.out c.mask_strings.new.out
     (ap length head ∙ length-header 4 (length block) a.s.mode a.s.rows a.s.places a.s.bytes a.session.now f.session_long)
-    (ap length masked.mask_strings.ensures ∙ omega (arith, long, s.requires.1)) (omega (arith, s.requires.1))
-    ∙ ap₂ (λ (x y : List ℕ). x ++ y) head masked.mask_strings.ensures
+    (ap length c.mask_strings.ensures ∙ omega (arith, long, c.requires.1)) (omega (arith, c.requires.1))
+    ∙ ap₂ (λ (x y : List ℕ). x ++ y) head c.mask_strings.ensures
 
 pub write_masked_spec : {M : Type 1} → statement M
 write_masked_spec =

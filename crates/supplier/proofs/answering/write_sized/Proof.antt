@@ -10,8 +10,7 @@ write-answer-requires c κs = (c.requires, omega (arith, c.if-s-le-FEW_ROWS.true
 
 write-answer-requires-2 : tie.Need-write_answer-requires-else-s-le-FEW_ROWS
 write-answer-requires-2 c κs =
-    let s = c in
-    (s.requires, omega (arith, (ready_shape _ _ _ _ _ _ _ _ _ _ _ s.requires).rows_few))
+    (c.requires, omega (arith, (ready_shape _ _ _ _ _ _ _ _ _ _ _ c.requires).rows_few))
 
 pub write_sized_spec : {M : Type 1} → statement M
 write_sized_spec =

@@ -12,25 +12,19 @@ returns c = stop _ c.judge_shape-shape.ensures c.if-shape-ne0.true
 returns-2 : tie.Need-returns-then-lengths-ne0
 unfolding answer_verdict
 returns-2 c =
-    let shaped = c in
-    go shaped.judge_shape-shape.ensures shaped.if-shape-ne0.false (stop _ c.judge_lengths-lengths.ensures c.if-lengths-ne0.true)
+    go c.judge_shape-shape.ensures c.if-shape-ne0.false (stop _ c.judge_lengths-lengths.ensures c.if-lengths-ne0.true)
 
 returns-3 : tie.Need-returns-then-padding-ne0
 unfolding answer_verdict
 returns-3 c =
-    let long = c in
-    let shaped = long in
-    go shaped.judge_shape-shape.ensures shaped.if-shape-ne0.false
-    (go long.judge_lengths-lengths.ensures long.if-lengths-ne0.false (stop _ c.judge_taken-padding.ensures c.if-padding-ne0.true))
+    go c.judge_shape-shape.ensures c.if-shape-ne0.false
+    (go c.judge_lengths-lengths.ensures c.if-lengths-ne0.false (stop _ c.judge_taken-padding.ensures c.if-padding-ne0.true))
 
 returns-4 : tie.Need-returns
 unfolding answer_verdict
 returns-4 c =
-    let clear = c in
-    let long = clear in
-    let shaped = long in
-    go shaped.judge_shape-shape.ensures shaped.if-shape-ne0.false
-    (go long.judge_lengths-lengths.ensures long.if-lengths-ne0.false (go clear.judge_taken-padding.ensures clear.if-padding-ne0.false c.check_received.ensures))
+    go c.judge_shape-shape.ensures c.if-shape-ne0.false
+    (go c.judge_lengths-lengths.ensures c.if-lengths-ne0.false (go c.judge_taken-padding.ensures c.if-padding-ne0.false c.check_received.ensures))
 
 pub judge_spec : {M : Type 1} → statement M
 judge_spec =

@@ -57,11 +57,10 @@ mask-string-requires c κs =
 
 loop-again : tie.Need-loop-j-preserved invariant-loop decreases-loop
 loop-again c =
-    let t = c in
-    let l = t.before.before.before.before.before.before.before in
+    let l = c.before.before.before.before.before.before.before in
     let s = start l in
     let a = s.args in
-    let h = t.loop-j-test.true in
+    let h = c.loop-j-test.true in
     let f = s.requires.0 in
     let size : l.loop-j.at + a.s.bytes - l.loop-j.at ≡ a.s.bytes = omega arith in
     let across : l.loop-j.a + l.row_bytes-w.result - l.loop-j.a ≡ l.row_bytes-w.result = omega arith in (
@@ -95,8 +94,8 @@ mask_place_spec =
     (λ c κs. search rules)
     (λ c. search rules)
     (λ c. search rules)
-    (λ c. let s = c in omega (arith, mul_le_both _ _ 256 32 s.requires.0.places_few s.requires.0.bytes_few))
-    (λ c. let s = c in omega (arith, mul_le_both s.args.r s.args.s.bytes 256 32 (omega (arith, s.requires.1, s.requires.0.places_few)) s.requires.0.bytes_few))
+    (λ c. omega (arith, mul_le_both _ _ 256 32 c.requires.0.places_few c.requires.0.bytes_few))
+    (λ c. omega (arith, mul_le_both c.args.r c.args.s.bytes 256 32 (omega (arith, c.requires.1, c.requires.0.places_few)) c.requires.0.bytes_few))
     (λ c. (placed_none _ _ _ _ _, omega arith, omega arith, omega arith))
     (λ c. search rules)
     (λ c. let l = c.before.before in omega (arith, row_inside l c.loop-j-test.true, rows_few l))
@@ -108,7 +107,7 @@ mask_place_spec =
     (λ c. search rules)
     (λ c. let l = c.before.before.before in omega (arith, string_inside l c.loop-j-test.true, (start l).requires.0.strings_long, l.loop-j.invariant.0.long))
     mask-string-requires
-    (λ c. let t = c in omega (arith, string_inside t.before.before.before.before.before.before.before t.loop-j-test.true, few t.before.before.before.before.before.before.before, step_few t.before.before.before.before.before.before.before))
+    (λ c. omega (arith, string_inside c.before.before.before.before.before.before.before c.loop-j-test.true, few c.before.before.before.before.before.before.before, step_few c.before.before.before.before.before.before.before))
     (λ c. search rules)
     (λ c. search rules)
     loop-again

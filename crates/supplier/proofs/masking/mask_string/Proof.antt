@@ -15,15 +15,12 @@ use Rattle.supplier.proofs.masking.mask_string.Tie as tie
 
 returns : tie.Need-returns
 returns c =
-    let masked = c in
-    let made = masked in
-    let s = made in
-    let a = s.args in
-    masked.mask.ensures
-    ∙ pad_masked_fit a.session.now a.j _ a.string.now s.requires.0 (simp length-take (omega (arith, s.requires.1))) s.requires.2
+    let a = c.args in
+    c.mask.ensures
+    ∙ pad_masked_fit a.session.now a.j _ a.string.now c.requires.0 (simp length-take (omega (arith, c.requires.1))) c.requires.2
     ∙ ap (λ (t : List ℕ). a.string.now ⊕ pad_bytes a.session.now (length a.string.now) a.j t)
-    (ap (λ (n : ℕ). take n made.xor_into.new.out) (sub-zero (length a.row.now)) ∙ ap (take (length a.row.now)) made.xor_into.ensures
-    ∙ xor_front a.row.now a.word (omega (arith, s.requires.1)))
+    (ap (λ (n : ℕ). take n c.xor_into.new.out) (sub-zero (length a.row.now)) ∙ ap (take (length a.row.now)) c.xor_into.ensures
+    ∙ xor_front a.row.now a.word (omega (arith, c.requires.1)))
 
 pub mask_string_spec : {M : Type 1} → statement M
 mask_string_spec =

@@ -18,8 +18,7 @@ decreases-loop mode r secret word₀ p₀ word p = 32 - p
 
 loop-again : tie.Need-loop-p-preserved invariant-loop decreases-loop
 loop-again c =
-    let l = c in
-    filled_more l.loop-p.invariant (search rules) (ap₂ bit_and c.selected_byte.ensures c.byte_or_zero.ensures)
+    filled_more c.loop-p.invariant (search rules) (ap₂ bit_and c.selected_byte.ensures c.byte_or_zero.ensures)
 
 returns : tie.Need-returns invariant-loop decreases-loop
 returns c = filled_end c.loop-p.invariant refl (omega arith)

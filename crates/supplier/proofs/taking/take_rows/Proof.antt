@@ -103,15 +103,14 @@ module _ (t : tie.After-taken_columns invariant-loop decreases-loop) where
 
 taken-columns-requires : tie.Need-taken_columns-requires invariant-loop decreases-loop
 taken-columns-requires c κs =
-    let t = c in
-    let l = t.before.before.before in
+    let l = c.before.before.before in
     let s = start l in
     set_fit_holds s.args.seeded 8 s.args.rows _ _ _
     (record {
       some = s.requires.some;
       few = s.requires.few;
       session_long = s.requires.session_long;
-      set_long = simp (length-take, length-drop) (omega (arith, entries_inside l t.loop-g-test.true, entry_is l));
+      set_long = simp (length-take, length-drop) (omega (arith, entries_inside l c.loop-g-test.true, entry_is l));
       block_long = simp (length-take, length-drop) (omega (arith, column_is l, s.requires.few, l.loop-g.invariant.4));
     })
 
@@ -172,7 +171,7 @@ take_rows_spec =
     (λ c. let l = c.before.before in omega (arith, column_is l, (start l).requires.few, l.loop-g.invariant.4))
     taken-columns-requires
     (λ c. search rules)
-    (λ c. let t = c in omega (arith, t.loop-g-test.true, width t.before.before.before.before.before.before, (start t.before.before.before.before.before.before).requires.secret_long))
+    (λ c. omega (arith, c.loop-g-test.true, width c.before.before.before.before.before.before, (start c.before.before.before.before.before.before).requires.secret_long))
     (λ c. search rules)
     (λ c. search rules)
     (λ c. let t = c.before.before in omega (arith, work_long t, column_is (loop t), (start (loop t)).requires.few))

@@ -6,10 +6,8 @@ use Rattle.supplier.proofs.taking.taken_columns.Tie as tie
 
 returns : tie.Need-returns
 returns c =
-    let d = c in
-    let s = d in
-    zeros-added s.args.seeded s.args.rows s.args.session.now s.args.taken.now _ s.args.eight.now d.clear.ensures
-    d.add_set.ensures s.requires
+    zeros-added c.args.seeded c.args.rows c.args.session.now c.args.taken.now _ c.args.eight.now c.clear.ensures
+    c.add_set.ensures c.requires
 
 pub taken_columns_spec : {M : Type 1} → statement M
 taken_columns_spec = tie.close (tie.spec (λ c κs. search rules) (λ c κs. search rules) (λ c. search rules) returns)

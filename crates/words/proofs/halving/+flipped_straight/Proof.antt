@@ -54,38 +54,33 @@ unfolding straight_word
     (λ c. search rules)
     (λ c. sym (front_length c.args.buf.now))
     (λ c κs.
-    let s = c in
-    let n : s.args.q ≡ 0 → ⊥ = c.if-q-eq0.false in
-    (less s.args.q t s.requires.0 n, front_length s.args.buf.now ∙ half_of (length s.args.buf.now) s.args.q s.requires.1 n))
+    let n : c.args.q ≡ 0 → ⊥ = c.if-q-eq0.false in
+    (less c.args.q t c.requires.0 n, front_length c.args.buf.now ∙ half_of (length c.args.buf.now) c.args.q c.requires.1 n))
     (λ c. half_pos _ c.args.q c.requires.1 c.if-q-eq0.false)
     (λ c. search rules)
     (λ c. search rules)
     (λ c. search rules)
     (λ c κs.
-    let s = c in
-    let n : s.args.q ≡ 0 → ⊥ = c.if-q-eq0.false in
+    let n : c.args.q ≡ 0 → ⊥ = c.if-q-eq0.false in
     let f = c.flipped in
-    (less s.args.q t s.requires.0 n, back_length s.args.buf.now f.new.buf s.args.q s.requires.1 n f.auto.buf))
+    (less c.args.q t c.requires.0 n, back_length c.args.buf.now f.new.buf c.args.q c.requires.1 n f.auto.buf))
     (λ c. search rules)
     (λ c. search rules)
     (λ c. search rules)
     (λ c κs.
-    let s = c in
-    let n : s.args.q ≡ 0 → ⊥ = c.if-q-eq0.false in
+    let n : c.args.q ≡ 0 → ⊥ = c.if-q-eq0.false in
     let f = c.flipped in
-    (less s.args.q t s.requires.0 n, back_length s.args.buf.now f.new.buf s.args.q s.requires.1 n f.auto.buf))
+    (less c.args.q t c.requires.0 n, back_length c.args.buf.now f.new.buf c.args.q c.requires.1 n f.auto.buf))
     (λ c. search rules)
     (λ c.
-    let s = c in
     let f = c.flipped in
     let g = c.flipped-then-r-half-eq0 in
-    ends_same flipped_word straight_word (λ k r. refl) s.args.buf.now f.new.buf g.new.buf s.args.q s.args.r s.requires.1 c.if-q-eq0.false f.auto.buf f.ensures g.ensures c.if-r-half-eq0.true)
+    ends_same flipped_word straight_word (λ k r. refl) c.args.buf.now f.new.buf g.new.buf c.args.q c.args.r c.requires.1 c.if-q-eq0.false f.auto.buf f.ensures g.ensures c.if-r-half-eq0.true)
     (λ c. search rules)
     (λ c.
-    let s = c in
     let f = c.flipped in
     let g = c.straight in
-    ends_other flipped_word straight_word (λ k r. refl) s.args.buf.now f.new.buf g.new.buf s.args.q s.args.r s.requires.1 c.if-q-eq0.false f.auto.buf f.ensures g.ensures c.if-r-half-eq0.false))
+    ends_other flipped_word straight_word (λ k r. refl) c.args.buf.now f.new.buf g.new.buf c.args.q c.args.r c.requires.1 c.if-q-eq0.false f.auto.buf f.ensures g.ensures c.if-r-half-eq0.false))
     (λ t. straight-lts.spec (straight_below t, straight.Post, flipped_below t, flipped.Post) (straight_at t) straight.Post
     (λ c. omega (arith, pow_pos c.args.q))
     (λ c. search rules)
@@ -95,35 +90,30 @@ unfolding straight_word
     (λ c. search rules)
     (λ c. sym (front_length c.args.buf.now))
     (λ c κs.
-    let s = c in
-    let n : s.args.q ≡ 0 → ⊥ = c.if-q-eq0.false in
-    (less s.args.q t s.requires.0 n, front_length s.args.buf.now ∙ half_of (length s.args.buf.now) s.args.q s.requires.1 n))
+    let n : c.args.q ≡ 0 → ⊥ = c.if-q-eq0.false in
+    (less c.args.q t c.requires.0 n, front_length c.args.buf.now ∙ half_of (length c.args.buf.now) c.args.q c.requires.1 n))
     (λ c. half_pos _ c.args.q c.requires.1 c.if-q-eq0.false)
     (λ c. search rules)
     (λ c. search rules)
     (λ c. search rules)
     (λ c κs.
-    let s = c in
-    let n : s.args.q ≡ 0 → ⊥ = c.if-q-eq0.false in
+    let n : c.args.q ≡ 0 → ⊥ = c.if-q-eq0.false in
     let f = c.straight in
-    (less s.args.q t s.requires.0 n, back_length s.args.buf.now f.new.buf s.args.q s.requires.1 n f.auto.buf))
+    (less c.args.q t c.requires.0 n, back_length c.args.buf.now f.new.buf c.args.q c.requires.1 n f.auto.buf))
     (λ c. search rules)
     (λ c. search rules)
     (λ c. search rules)
     (λ c κs.
-    let s = c in
-    let n : s.args.q ≡ 0 → ⊥ = c.if-q-eq0.false in
+    let n : c.args.q ≡ 0 → ⊥ = c.if-q-eq0.false in
     let f = c.straight in
-    (less s.args.q t s.requires.0 n, back_length s.args.buf.now f.new.buf s.args.q s.requires.1 n f.auto.buf))
+    (less c.args.q t c.requires.0 n, back_length c.args.buf.now f.new.buf c.args.q c.requires.1 n f.auto.buf))
     (λ c. search rules)
     (λ c.
-    let s = c in
     let f = c.straight in
     let g = c.straight-then-r-half-eq0 in
-    ends_same straight_word flipped_word (λ k r. refl) s.args.buf.now f.new.buf g.new.buf s.args.q s.args.r s.requires.1 c.if-q-eq0.false f.auto.buf f.ensures g.ensures c.if-r-half-eq0.true)
+    ends_same straight_word flipped_word (λ k r. refl) c.args.buf.now f.new.buf g.new.buf c.args.q c.args.r c.requires.1 c.if-q-eq0.false f.auto.buf f.ensures g.ensures c.if-r-half-eq0.true)
     (λ c. search rules)
     (λ c.
-    let s = c in
     let f = c.straight in
     let g = c.flipped in
-    ends_other straight_word flipped_word (λ k r. refl) s.args.buf.now f.new.buf g.new.buf s.args.q s.args.r s.requires.1 c.if-q-eq0.false f.auto.buf f.ensures g.ensures c.if-r-half-eq0.false))
+    ends_other straight_word flipped_word (λ k r. refl) c.args.buf.now f.new.buf g.new.buf c.args.q c.args.r c.requires.1 c.if-q-eq0.false f.auto.buf f.ensures g.ensures c.if-r-half-eq0.false))
