@@ -1,7 +1,9 @@
 // The fields of a message (document 01, section 6): their tags, where headers and values begin, and the lengths that every message has. And mode 2.
 
+// A mode stays a byte too: `Shape` holds what came from outside, and refusal 1 is about it.
 pub const CHOICES: u8 = 2;
 
+// Tags stay bytes: any byte may stand where a tag is expected, and `block_length` and `has_header` promise an answer for each.
 pub const TAG_SHAPE: u8 = 1;
 
 pub const TAG_SESSION: u8 = 2;

@@ -1,11 +1,12 @@
 // A shape's numbers and refusals 1 to 5 (document 01, sections 2 and 7).
 ghost use Rattle.std.specs.Prelude.{◌≡◌, ◌+◌, ◌*◌, ◌^◌, ◌≤◌, ◌<◌};
 ghost use Rattle.basics.specs.Padding.{col_bytes};
+ghost use Rattle.basics.specs.Verdicts.{verdict};
 ghost use Rattle.wire.specs.Shapes.{most_places, within, verdict_of, block_length, Width};
 
 use crate::Shape;
 use crate::fields::{CHOICES, TAG_COLUMNS};
-use basics::{Verdict, refuse_unless};
+use basics::{Reason, Refusal, check};
 
 const MOST_ROWS: usize = 1024;
 
@@ -13,7 +14,7 @@ const MOST_BYTES: usize = 32;
 
 const MOST_VOLUME: usize = 32768;
 
-// k
+// k. What goes by the mode stands in a function for each definition: `k_of` and `most_places` here, a word's width in `columns`.
 pub fn columns_of(mode: u8) -> usize
     ensures { Width mode result }
 {
@@ -24,7 +25,7 @@ pub fn columns_of(mode: u8) -> usize
 pub fn column_bytes(rows: u16) -> usize
     ensures { result ≡ col_bytes rows }
 {
-    (rows as usize + 7) / 8
+    (rows as usize).div_ceil(8)
 }
 
 // m·n·l
@@ -59,18 +60,16 @@ fn is_within(low: usize, x: usize, high: usize) -> bool
 }
 
 // Refusals 1 to 5.
-pub fn judge_shape(s: Shape) -> Verdict
-    ensures { result ≡ verdict_of s }
+pub fn judge_shape(s: Shape) -> Result<(), Refusal>
+    ensures { verdict result ≡ verdict_of s }
 {
-    let pass = Verdict { code: 0, place: 0 };
-    let v5 = refuse_unless(volume(s) <= MOST_VOLUME, 5, 0, pass);
-    let v4 = refuse_unless(is_within(1, s.bytes as usize, MOST_BYTES), 4, 0, v5);
-    let v3 = refuse_unless(
+    check(is_within(1, s.mode as usize, 2), Reason::Mode, 0)?;
+    check(is_within(1, s.rows as usize, MOST_ROWS), Reason::Rows, 0)?;
+    check(
         is_within(2, s.places as usize, most_places(s.mode)),
-        3,
+        Reason::Places,
         0,
-        v4,
-    );
-    let v2 = refuse_unless(is_within(1, s.rows as usize, MOST_ROWS), 2, 0, v3);
-    refuse_unless(is_within(1, s.mode as usize, 2), 1, 0, v2)
+    )?;
+    check(is_within(1, s.bytes as usize, MOST_BYTES), Reason::Bytes, 0)?;
+    check(volume(s) <= MOST_VOLUME, Reason::Volume, 0)
 }

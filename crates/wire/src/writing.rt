@@ -1,21 +1,21 @@
 // The bytes of a message before its block (document 01, section 6).
 ghost use Rattle.std.specs.Prelude.{◌≡◌, ◌+◌, ◌<◌, length};
-ghost use Rattle.wire.specs.Message.{header_written};
+ghost use Rattle.wire.specs.Message.{header_written, shape_bytes};
 
 use crate::Shape;
 use crate::fields::{
     BLOCK_AT, BLOCK_HEADER_AT, SESSION_BYTES, SESSION_VALUE_AT, TAG_SESSION, TAG_SHAPE,
 };
-use basics::copy;
 
 const MOST_LENGTH: usize = 65535;
 
-// Fills a part with as many bytes.
-fn put(src: &[u8], part: &mut [u8])
-    requires { length src.now ≡ length part.old }
-    ensures { part.new ≡ src.now }
+// A shape's six bytes, numbers big-endian.
+pub(crate) fn shape_bytes(s: Shape) -> [u8; 6]
+    ensures { result ≡ shape_bytes s.mode s.rows s.places s.bytes }
 {
-    copy(src, part)
+    let rows = s.rows.to_be_bytes();
+    let places = s.places.to_be_bytes();
+    [s.mode, rows[0], rows[1], places[0], places[1], s.bytes]
 }
 
 // Writes the shape field, the session field and the block's header into a part of 27 bytes. A part or a session of another length, or a length
@@ -32,22 +32,24 @@ pub fn write_header(tag: u8, len: usize, s: Shape, session: &[u8], out: &mut [u8
     if MOST_LENGTH < len {
         return;
     }
-    let shape = [
+    let shape = shape_bytes(s);
+    let front = [
         TAG_SHAPE,
         0,
         6,
-        s.mode,
-        (s.rows / 256) as u8,
-        (s.rows % 256) as u8,
-        (s.places / 256) as u8,
-        (s.places % 256) as u8,
-        s.bytes,
+        shape[0],
+        shape[1],
+        shape[2],
+        shape[3],
+        shape[4],
+        shape[5],
         TAG_SESSION,
         0,
         12,
     ];
-    put(&shape, &mut out[0..SESSION_VALUE_AT]);
-    put(session, &mut out[SESSION_VALUE_AT..BLOCK_HEADER_AT]);
-    let block = [tag, (len / 256) as u8, (len % 256) as u8];
-    put(&block, &mut out[BLOCK_HEADER_AT..BLOCK_AT]);
+    out[0..SESSION_VALUE_AT].copy_from_slice(&front);
+    out[SESSION_VALUE_AT..BLOCK_HEADER_AT].copy_from_slice(session);
+    let length = (len as u16).to_be_bytes();
+    let block = [tag, length[0], length[1]];
+    out[BLOCK_HEADER_AT..BLOCK_AT].copy_from_slice(&block);
 }
