@@ -1,9 +1,11 @@
 -- Laws of specs/Sha.antt, in its order: what the loops over the schedule, the rounds and the blocks cite. Assumes nothing.
-use Rattle.std.proofs.Common.{◌≡◌, ℕ, zero, suc, ◌+◌, ◌-◌, ◌*◌, ◌/◌, ◌%◌, ◌<◌, ◌≤◌, Bool, List, [], ◌∷◌, ◌++◌, length, get_or, take, drop, set, replicate, sym, refl, ap, ◌∙◌, ap₂, append_assoc, append-nil, add-zero, add-suc, add-one, arith, length-append, length-drop, length-set, drop_of_length-le, length-take, take_all, get_or-take, drop-drop, take-suc-set, take_at, drop_at, le-ltb, lt-ltb}
+use Rattle.std.proofs.Common.{◌≡◌, ℕ, zero, suc, ◌+◌, ◌-◌, ◌*◌, ◌/◌, ◌%◌, ◌<◌, ◌≤◌, Bool, List, [], ◌∷◌, ◌++◌, length, get_or, take, drop, set, replicate, sym, refl, ap, ◌∙◌, ap₂, append_assoc, append-nil, add-zero, add-suc, add-one, arith, length-append, length-drop, length-set, drop_of_length-le, take_all, get_or-take, drop-drop, take-suc-set, take_at, drop_at, le-ltb, lt-ltb}
 use lib.ListN.{length-replicate, replicate-append-replicate, get_or-append}
-use lib.Seq.{take-append-le, drop-append-le, set_at, sets, sets-eq}
+use lib.Seq.{take-append-le, drop-append-le, set_at}
+use borrow.Rule.Slice.PartMut.{put_mid}
+use Rattle.std.specs.Simd.{first_chunks}
 use Rattle.basics.specs.Choice.{pick}
-use Rattle.basics.specs.Bytes.{be32_at, over}
+use Rattle.basics.specs.Bytes.{be32_at}
 use Rattle.symmetric.specs.Values.{Scheduled}
 use Rattle.symmetric.specs.Sha.{round_constants, be64, zeros, ending, padded, block_at, expanded, word, schedule, round, rounds, compress, blocks}
 
@@ -26,43 +28,41 @@ pub length-padded : (m : List ℕ) → length (padded m) ≡ (length m + 72) / 6
 unfolding padded zeros
 length-padded m = omega (arith, length-append m (ending (length m)), length-ending (length m))
 
+-- a message cut into blocks: block i of n
+chunk_at : (n : ℕ) (m : List ℕ) (i : ℕ) (d : List ℕ) → i < n → get_or (first_chunks 64 n m) i d ≡ take 64 (drop (i * 64) m)
+chunk_at zero m i d h = absurd (omega arith)
+chunk_at (suc n) m zero d h = refl
+chunk_at (suc n) m (suc i) d h =
+    let e : 64 + i * 64 ≡ suc i * 64 = omega arith in
+    chunk_at n (drop 64 m) i d (omega arith) ∙ ap (take 64) (drop-drop (i * 64) 64 m ∙ ap (λ (x : ℕ). drop x m) e)
+
 -- a block that lies whole in the message
-pub block_whole : (m : List ℕ) (at end i : ℕ) → at ≡ i * 64 → end ≡ at + 64 → end ≤ length m → take (end - at) (drop at m) ≡ block_at (padded m) i
+pub block_whole : (m : List ℕ) {cs : List (List ℕ)} (i : ℕ) (d : List ℕ) → cs ≡ first_chunks 64 (length m / 64) m → i < length m / 64
+    → get_or cs i d ≡ block_at (padded m) i
 unfolding block_at padded
-block_whole m at end i p q r =
-    let n : end - at ≡ 64 = omega arith in
-    let l : 64 ≤ length (drop at m) = simp length-drop (omega arith) in
-    ap (λ (x : ℕ). take x (drop at m)) n
-    ∙ sym (take-append-le 64 (drop at m) (ending (length m)) l)
-    ∙ ap (take 64) (sym (drop-append-le at m (ending (length m)) (omega arith)))
-    ∙ ap (λ (x : ℕ). take 64 (drop x (m ++ ending (length m)))) p
+block_whole m i d e h =
+    let l : 64 ≤ length (drop (i * 64) m) = simp length-drop (omega arith) in
+    ap (λ (x : List (List ℕ)). get_or x i d) e
+    ∙ chunk_at (length m / 64) m i d h
+    ∙ sym (take-append-le 64 (drop (i * 64) m) (ending (length m)) l)
+    ∙ ap (take 64) (sym (drop-append-le (i * 64) m (ending (length m)) (omega arith)))
 
 drop-replicate : (n k a : ℕ) → drop n (replicate (n + k) a) ≡ replicate k a
 drop-replicate n k a = rw (← replicate-append-replicate) (drop_at (replicate n a) (replicate k a) n (length-replicate n a))
 
 -- the block of the mark: what is left of the message over zeros, and the byte 128 after it
-pub marked_is : (s : List ℕ) → length s < 64 → set (over s (replicate 64 0)) (length s) 128 ≡ s ++ (128 ∷ replicate (63 - length s) 0)
-unfolding over
+pub marked_is : (s : List ℕ) → length s < 64 → set (s ++ drop (length s) (replicate 64 0)) (length s) 128 ≡ s ++ (128 ∷ replicate (63 - length s) 0)
 marked_is s h =
     let e : 64 ≡ length s + suc (63 - length s) = omega arith in
     let d : drop {A = ℕ} (length s) (replicate 64 0) ≡ 0 ∷ replicate (63 - length s) 0
     = ap (λ (n : ℕ). drop {A = ℕ} (length s) (replicate n 0)) e ∙ drop-replicate (length s) (suc (63 - length s)) 0 in
-    ap₂ (λ (a b : List ℕ). set (a ++ b) (length s) 128) (take_all 64 s (omega arith)) d
-    ∙ set_at s 0 (replicate (63 - length s) 0) 128 (length s) refl
-
-pub length_marked : (s : List ℕ) → length s < 64 → length (s ++ (128 ∷ replicate (63 - length s) 0)) ≡ 64
-length_marked s h = length-append s (128 ∷ replicate (63 - length s) 0) ∙ omega (arith, length-replicate {A = ℕ} (63 - length s) 0)
+    ap (λ (b : List ℕ). set (s ++ b) (length s) 128) d ∙ set_at s 0 (replicate (63 - length s) 0) 128 (length s) refl
 
 -- the length over the last eight bytes of a block
-pub sized_is : (b vs : List ℕ) → length b ≡ 64 → length vs ≡ 8 → sets b 56 vs ≡ take 56 b ++ vs
-sized_is b vs h l =
-    sets-eq vs b 56 (omega arith)
-    ∙ ap (λ (t : List ℕ). take 56 b ++ vs ++ t) (drop_of_length-le b {i = 56 + length vs} (omega arith))
-    ∙ append-nil (take 56 b ++ vs)
-
-pub length_sized : (b : List ℕ) (n : ℕ) → length b ≡ 64 → length (take 56 b ++ be64 n) ≡ 64
-unfolding be64
-length_sized b n h = length-append (take 56 b) (be64 n) ∙ simp length-take (omega arith)
+pub sized_is : (b vs : List ℕ) → length b ≡ 64 → put_mid 56 8 b vs ≡ take 56 b ++ vs
+sized_is b vs h =
+    ap (λ (t : List ℕ). take 56 b ++ (vs ++ t)) (drop_of_length-le (drop 56 b) {i = 8} (simp length-drop (omega arith)))
+    ∙ ap (λ (t : List ℕ). take 56 b ++ t) (append-nil vs)
 
 -- the one or two blocks that follow those that lie whole in the message m
 module _ (m : List ℕ) where
@@ -199,27 +199,6 @@ module _ (bs : List ℕ) {w : List ℕ} (t n : ℕ) {v : ℕ} (z : Scheduled bs 
       (e
       ∙ (simp (b 2 h (omega arith) (omega arith), b 7 h (omega arith) (omega arith), b 15 h (omega arith) (omega arith), b 16 h (omega arith) (omega arith)))
       ∙ sym (ap (λ (b : Bool). pick b (be32_at bs (t * 4)) (expanded (schedule bs t) t)) (le-ltb t 16 h)))
-
--- eight more
-pub scheduled_eight : (bs : List ℕ) {w : List ℕ} (t : ℕ) {v₀ v₁ v₂ v₃ v₄ v₅ v₆ v₇ : ℕ} → Scheduled bs t w → 16 ≤ t → t + 8 ≤ 64
-    → v₀ ≡ expanded w t
-    → v₁ ≡ expanded (set w t v₀) (t + 1)
-    → v₂ ≡ expanded (set (set w t v₀) (t + 1) v₁) (t + 2)
-    → v₃ ≡ expanded (set (set (set w t v₀) (t + 1) v₁) (t + 2) v₂) (t + 3)
-    → v₄ ≡ expanded (set (set (set (set w t v₀) (t + 1) v₁) (t + 2) v₂) (t + 3) v₃) (t + 4)
-    → v₅ ≡ expanded (set (set (set (set (set w t v₀) (t + 1) v₁) (t + 2) v₂) (t + 3) v₃) (t + 4) v₄) (t + 5)
-    → v₆ ≡ expanded (set (set (set (set (set (set w t v₀) (t + 1) v₁) (t + 2) v₂) (t + 3) v₃) (t + 4) v₄) (t + 5) v₅) (t + 6)
-    → v₇ ≡ expanded (set (set (set (set (set (set (set w t v₀) (t + 1) v₁) (t + 2) v₂) (t + 3) v₃) (t + 4) v₄) (t + 5) v₅) (t + 6) v₆) (t + 7)
-    → Scheduled bs (t + 8) (set (set (set (set (set (set (set (set w t v₀) (t + 1) v₁) (t + 2) v₂) (t + 3) v₃) (t + 4) v₄) (t + 5) v₅) (t + 6) v₆) (t + 7) v₇)
-scheduled_eight bs t z low high e₀ e₁ e₂ e₃ e₄ e₅ e₆ e₇ =
-    let z₁ = scheduled_high bs t (t + 1) z (omega arith) (omega arith) (omega arith) e₀ in
-    let z₂ = scheduled_high bs (t + 1) (t + 2) z₁ (omega arith) (omega arith) (omega arith) e₁ in
-    let z₃ = scheduled_high bs (t + 2) (t + 3) z₂ (omega arith) (omega arith) (omega arith) e₂ in
-    let z₄ = scheduled_high bs (t + 3) (t + 4) z₃ (omega arith) (omega arith) (omega arith) e₃ in
-    let z₅ = scheduled_high bs (t + 4) (t + 5) z₄ (omega arith) (omega arith) (omega arith) e₄ in
-    let z₆ = scheduled_high bs (t + 5) (t + 6) z₅ (omega arith) (omega arith) (omega arith) e₅ in
-    let z₇ = scheduled_high bs (t + 6) (t + 7) z₆ (omega arith) (omega arith) (omega arith) e₆ in
-    scheduled_high bs (t + 7) (t + 8) z₇ (omega arith) (omega arith) (omega arith) e₇
 
 -- ---- one more round, one more block
 
