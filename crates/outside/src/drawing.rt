@@ -2,6 +2,7 @@
 ghost use Rattle.std.specs.Prelude.{◌≡◌};
 ghost use Rattle.outside.specs.Drawn.{stepped, Drawn};
 
+#[tactic(auto, unfolding(crate::specs::Drawn::stepped))]
 fn step(x: u32) -> u32
     ensures { result ≡ stepped x }
 {
@@ -15,11 +16,9 @@ pub fn draw(x: u32, out: &mut [u8]) -> u32
     ensures { Drawn x out.old result out.new }
 {
     let mut state = x;
-    let mut p = 0;
-    while p < out.len() {
+    for byte in out.iter_mut() {
         state = step(state);
-        out[p] = (state % 256) as u8;
-        p += 1;
+        *byte = (state % 256) as u8;
     }
     state
 }

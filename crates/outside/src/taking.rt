@@ -10,7 +10,7 @@ use basics::byte_or_zero;
 fn entry_of(width: usize, p: usize) -> usize
     ensures { result ≡ p / width }
 {
-    if width == 0 { 0 } else { p / width }
+    p.checked_div(width).unwrap_or(0)
 }
 
 // Bit i of a string.
@@ -34,9 +34,7 @@ fn taken_byte(width: usize, secret: &[u8], first: &[u8], second: &[u8], p: usize
 pub fn take(width: usize, secret: &[u8], first: &[u8], second: &[u8], taken: &mut [u8])
     ensures { taken.new ≡ taken_set width secret.now first.now second.now (length taken.old) }
 {
-    let mut p = 0;
-    while p < taken.len() {
-        taken[p] = taken_byte(width, secret, first, second, p);
-        p += 1;
+    for (p, byte) in taken.iter_mut().enumerate() {
+        *byte = taken_byte(width, secret, first, second, p);
     }
 }
