@@ -1,21 +1,33 @@
 -- Laws of gathering: the mask of equal bytes, a row's strings gone over under it, and a string that stands alone brought to the front. Assumes nothing.
 use mathlib.Core.Path.{◌≡◌, refl, sym, ap, ap₂, subst, ◌∙◌}
-use mathlib.Core.List.{List}
+use mathlib.Core.List.{List, ◌++◌}
 use Prim.Native.Nat.{ℕ, ◌+◌, ◌-◌, ◌*◌, ◌/◌, ◌%◌, ◌^◌, ◌≤◌, ◌<◌}
 use native.Mathlib.Nat.{zero-add, add-mul, mod-eq_of_lt, mul-le-mul_right}
 use native.Mathlib.Decide.{ℕ_discrete, dec_lt}
 use native.Mathlib.Omega.{arith}
 use lib.Arith.{digits_lt, digits_div, digits_mod}
 use lib.Bits.{bit_xor, bit_and, and_mask, and_zero_r, xor_zero_l, xor_zero_r, xor_self}
-use lib.ListN.{length, get_or, take, drop, length-take, length-drop, get_or-eq_default}
-use lib.Seq.{get_or-take, get_or-drop}
+use lib.ListN.{length, get_or, take, drop, length-take, length-drop, get_or-append, get_or-eq_default}
+use lib.Seq.{get_or-take, get_or-drop, get_or-append-add}
 use borrow.Rule.Slice.PartMut.{put_mid}
 use borrow.Author.Tests.{eq-eqb, ne_eqb}
-use Rattle.basics.specs.Bytes.{build, Bytes}
-use Rattle.basics.proofs.Bytes.{length-build, get_or-build, xor_undo}
+use Rattle.basics.specs.Bytes.{build, Bytes, ◌⊕◌}
+use Rattle.basics.proofs.Bytes.{length-build, get_or-build, length-xor, get_or-xor, xor_undo}
 use Rattle.basics.proofs.Choice.{picked, unpicked}
-use Rattle.basics.proofs.Fill.{put_inside, put_outside}
+use Rattle.basics.proofs.Fill.{Filled, filled_rest, put_inside, put_outside}
 use Rattle.strings.specs.Gathered.{equal_mask, under, added, Alone, Folded}
+
+-- ---- what a loop that fills from the front has not reached is what it was
+
+pub filled_past : {f : ℕ → ℕ} {i : ℕ} {old now : List ℕ} → Filled f i old now → (p : ℕ) → i ≤ p → get_or now p 0 ≡ get_or old p 0
+filled_past {f} {i} {old} {now} z p h =
+    let split : i + (p - i) ≡ p = omega arith in
+    ap (λ (x : ℕ). get_or now x 0) (sym split) ∙ filled_rest z (p - i) ∙ ap (λ (x : ℕ). get_or old x 0) split
+
+-- ---- k strings of l bytes from string i on end within n strings
+
+pub end_within : (l i k n : ℕ) → i + k ≤ n → i * l + k * l ≤ n * l
+end_within l i k n h = omega (arith, add-mul i k l, mul-le-mul_right l h)
 
 -- ---- the mask
 
@@ -206,6 +218,38 @@ module _ (l h r : ℕ) (places row : List ℕ) (are : places ≡ build (h * l) (
         stays hc z
 
 -- ---- the second half of k strings xored onto the first
+
+-- the front f of old, and the rest b, of which the first len bytes are xored onto f
+pub folded_split : (f b : List ℕ) (at len : ℕ) {old g : List ℕ} → old ≡ f ++ b → length f ≡ at → len ≤ at → g ≡ f ⊕ take len b → Folded at len old (g ++ b)
+folded_split f b at len {old} {g} e long less hg = record { first = first; rest = λ p h. rest p h (dec_lt p (length f)) }
+  where
+    t : List ℕ
+    t = take len b
+
+    glen : length g ≡ length f
+    glen = ap length hg ∙ length-xor f t
+
+    byte : (p : ℕ) → p < length f → get_or (g ++ b) p 0 ≡ bit_xor (get_or f p 0) (get_or t p 0)
+    byte p q = get_or-append g b 0 p (omega (arith, glen)) ∙ ap (λ (x : List ℕ). get_or x p 0) hg ∙ get_or-xor f t p q
+
+    old_at : (p : ℕ) → p < length f → get_or old p 0 ≡ get_or f p 0
+    old_at p q = ap (λ (x : List ℕ). get_or x p 0) e ∙ get_or-append f b 0 p q
+
+    first : (p : ℕ) → p < len → get_or (g ++ b) p 0 ≡ bit_xor (get_or old p 0) (get_or old (at + p) 0)
+    first p h =
+        let q : p < length f = omega (arith, long) in
+        byte p q
+        ∙ ap₂ bit_xor (sym (old_at p q))
+        (get_or-take len b p 0 h ∙ sym (ap₂ (λ (x : List ℕ) (a : ℕ). get_or x (a + p) 0) e (sym long) ∙ get_or-append-add f b p 0))
+
+    rest : (p : ℕ) → len ≤ p → Dec (p < length f) → get_or (g ++ b) p 0 ≡ get_or old p 0
+    rest p h (yes q) =
+        byte p q ∙ ap (bit_xor (get_or f p 0)) (get_or-eq_default t 0 {n = p} (omega (arith, length-take len b))) ∙ xor_zero_r _ ∙ sym (old_at p q)
+    rest p h (no q) =
+        let split : length f + (p - length f) ≡ p = omega arith in
+        let past : length g + (p - length f) ≡ p = omega (arith, glen) in
+        ap (λ (x : ℕ). get_or (g ++ b) x 0) (sym past) ∙ get_or-append-add g b (p - length f) 0
+        ∙ sym (get_or-append-add f b (p - length f) 0) ∙ ap₂ (λ (x : List ℕ) (a : ℕ). get_or x a 0) (sym e) split
 
 pub alone_half : (l half rest : ℕ) (old now : List ℕ) → rest ≤ half → Folded (half * l) (rest * l) old now
     → (s : ℕ → ℕ) → Alone l (half + rest) s (λ p. get_or old p 0) → Alone l half s (λ p. get_or now p 0)

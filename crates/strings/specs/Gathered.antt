@@ -1,5 +1,5 @@
 -- How a row's selected string is gathered: all strings under masks, into a workspace of h strings in which it then stands alone.
-use Rattle.std.specs.Prelude.{◌≡◌, List, ℕ, ◌+◌, ◌*◌, ◌/◌, ◌≤◌, ◌<◌, eqb, length, get_or}
+use Rattle.std.specs.Prelude.{◌≡◌, List, ℕ, ◌+◌, ◌*◌, ◌≤◌, ◌<◌, eqb, length, get_or}
 use Rattle.std.specs.Int.Bits.{bit_xor, bit_and}
 use Rattle.basics.specs.Choice.{pick}
 use Rattle.basics.specs.Bytes.{build}
@@ -16,28 +16,12 @@ under place places src p = bit_and (get_or src p 0) (equal_mask (get_or places p
 unfoldable pub added : ℕ → ℕ → List ℕ → List ℕ → List ℕ → List ℕ → List ℕ
 added place other places src more work = build (length work) (λ p. bit_xor (bit_xor (get_or work p 0) (under place places src p)) (under other places more p))
 
--- the lengths that this asks for
-pub record AddFits (places src more work : ℕ) : Type 0 where
-  pub places_reach : work ≤ places
-  pub src_reaches : work ≤ src
-  pub more_reaches : work ≤ more
-
 -- byte p of k strings of l bytes is w p: one of the strings is s, and the others are zeros
 pub record Alone (l k : ℕ) (s w : ℕ → ℕ) : Type 0 where
   pub slot : ℕ
   pub within : slot < k
   pub here : (t : ℕ) → t < l → w (slot * l + t) ≡ s t
   pub none : (x t : ℕ) → x < k → (x ≡ slot → ⊥) → t < l → w (x * l + t) ≡ 0
-
--- a row of n strings of l bytes, a workspace of h strings, and the place of each byte of h strings
-pub record RowFits (n l h : ℕ) (places row work : List ℕ) : Type 0 where
-  pub some : 1 ≤ h
-  pub few : h ≤ n
-  pub places_few : n ≤ 256
-  pub bytes_few : l < 256
-  pub places_are : places ≡ build (h * l) (λ p. p / l)
-  pub row_long : length row ≡ n * l
-  pub work_long : length work ≡ h * l
 
 -- what stands after len bytes from `at` on were xored into the first ones
 pub record Folded (at len : ℕ) (old now : List ℕ) : Type 0 where
