@@ -129,61 +129,39 @@ rows-within m width j k h = rw (← add-mul) (mul-le-mul_right width h)
 
 -- ---- m rows, eight at a time, and last those that are fewer: the first 8 b have f at their byte g, and the next ones begin at a
 
-pub record ByEight (f : ℕ → ℕ) (m width g b a : ℕ) (old now : List ℕ) : Type 0 where
-  pub so_far : Given f width g (b * 8) old now
-  pub whole : b ≤ m / 8
-  pub begins : a ≡ b * 8 * width
-  pub rows_long : length old ≡ m * width
-  pub place : g < width
+-- eight rows of w bytes on, in the code's own w
+pub eight_next : (b width : ℕ) {w a : ℕ} → w ≡ width → a ≡ b * 8 * width → a + 8 * w ≡ (b + 1) * 8 * width
+eight_next b width hw ha = omega (arith, add-mul (b * 8) 8 width)
 
-pub eight_none : (f : ℕ → ℕ) (m width g : ℕ) (old : List ℕ) → length old ≡ m * width → g < width → ByEight f m width g 0 0 old old
-eight_none f m width g old hl hg = record { so_far = given_none f width g old; whole = omega arith; begins = omega arith; rows_long = hl; place = hg }
-
-module _ {f : ℕ → ℕ} {m width g b a : ℕ} {old now : List ℕ} (z : ByEight f m width g b a old now) where
-  pub eight_long : length now ≡ m * width
-  eight_long = z.so_far.long ∙ z.rows_long
-
+module _ (m b : ℕ) {width w a : ℕ} (hw : w ≡ width) (ha : a ≡ b * 8 * width) where
   -- eight rows more stand in the rows
-  pub eight_within : b < m / 8 → a + 8 * width ≤ m * width
-  eight_within h = omega (arith, z.begins, rows-within m width (b * 8) 8 (omega arith))
+  pub eight_within : b < m / 8 → a + 8 * w ≤ m * width
+  eight_within h = omega (arith, rows-within m width (b * 8) 8 (omega arith))
 
   -- after the last eight the others go to the end
-  pub eight_left : m / 8 ≤ b → (a ≤ length now) × (length now - a ≡ m % 8 * width)
+  pub eight_left : b ≡ m / 8 → a + m % 8 * width ≡ m * width
   eight_left h =
-      let all : b * 8 + m % 8 ≡ m = omega (arith, z.whole) in (
-        omega (arith, eight_long, z.begins, rows-within m width (b * 8) (m % 8) (omega arith)),
-        omega (arith, eight_long, z.begins, add-mul (b * 8) (m % 8) width, ap (λ (x : ℕ). x * width) all),
-      )
+      let all : b * 8 + m % 8 ≡ m = omega arith in
+      omega (arith, add-mul (b * 8) (m % 8) width, ap (λ (x : ℕ). x * width) all)
 
-  -- eight rows more took their byte g
-  pub eight_more : {u : ℕ → ℕ} {ys : List ℕ} → b < m / 8 → ((i : ℕ) → i < 8 → u i ≡ f (b * 8 + i)) → ys ≡ given width g u (take (a + 8 * width - a) (drop a now))
-      → ByEight f m width g (b + 1) (a + 8 * width) old (put_mid a (a + 8 * width - a) now ys)
-  eight_more h hu hy =
-      let size : a + 8 * width - a ≡ 8 * width = omega arith in
-      let more : b * 8 + 8 ≡ (b + 1) * 8 = omega arith in
-      record {
-        so_far = rw more at (given_part 8 z.so_far z.place z.begins size (omega (arith, eight_within h, z.rows_long)) hu hy);
-        whole = omega arith;
-        begins = omega (arith, z.begins, add-mul (b * 8) 8 width);
-        rows_long = z.rows_long;
-        place = z.place;
-      }
+  module _ {f u : ℕ → ℕ} {g : ℕ} {old now ys : List ℕ} (z : Given f width g (b * 8) old now) (hg : g < width) (hl : length old ≡ m * width)
+      (hu : (i : ℕ) → i < 8 → u i ≡ f (b * 8 + i)) where
+    -- eight rows more took their byte g
+    pub eight_more : b < m / 8 → ys ≡ given w g u (take (a + 8 * w - a) (drop a now)) → Given f width g ((b + 1) * 8) old (put_mid a (a + 8 * w - a) now ys)
+    eight_more h hy =
+        let size : a + 8 * w - a ≡ 8 * width = omega arith in
+        let more : b * 8 + 8 ≡ (b + 1) * 8 = omega arith in
+        let part : List ℕ = take (a + 8 * w - a) (drop a now) in
+        rw more at (given_part 8 z hg ha size (omega (arith, eight_within h)) hu (hy ∙ ap (λ (x : ℕ). given x g u part) hw))
 
-  -- the rows that are left took theirs
-  pub eight_rest : {u : ℕ → ℕ} {ys : List ℕ} → m / 8 ≤ b → ((i : ℕ) → i < 8 → u i ≡ f (b * 8 + i)) → ys ≡ given width g u (take (length now - a) (drop a now))
-      → put_mid a (length now - a) now ys ≡ given width g f old
-  eight_rest h hu hy =
-      let left = eight_left h in
-      let all : b * 8 + m % 8 ≡ m = omega (arith, z.whole) in
-      given_end
-      (rw all at (given_part (m % 8) z.so_far z.place z.begins left.1 (omega (arith, z.so_far.long, left.0)) (λ i l. hu i (omega arith)) hy))
-      z.place z.rows_long
-
-  -- or none were left
-  pub eight_end : m ≤ b * 8 → now ≡ given width g f old
-  eight_end h =
-      let all : b * 8 ≡ m = omega (arith, z.whole) in
-      given_end (rw all at z.so_far) z.place z.rows_long
+    -- the rows that are left took theirs
+    pub eight_rest : b ≡ m / 8 → ys ≡ given w g u (take (length now - a) (drop a now)) → Given f width g m old (put_mid a (length now - a) now ys)
+    eight_rest h hy =
+        let left = eight_left h in
+        let all : b * 8 + m % 8 ≡ m = omega arith in
+        let size : length now - a ≡ m % 8 * width = omega (arith, z.long) in
+        let part : List ℕ = take (length now - a) (drop a now) in
+        rw all at (given_part (m % 8) z hg ha size (omega (arith, z.long)) (λ i l. hu i (omega arith)) (hy ∙ ap (λ (x : ℕ). given x g u part) hw))
 
 -- ---- rows that have the bytes of `new` below byte g, and those of `old` from it on
 

@@ -1,17 +1,18 @@
 -- Laws of lent sets: the keystream in its workspace, and the loop that adds one column after the other. Assumes nothing.
-use mathlib.Core.Path.{◌≡◌, sym, ap, ap₂, ◌∙◌, subst}
+use mathlib.Core.Path.{◌≡◌, refl, sym, ap, ap₂, ◌∙◌, subst}
 use mathlib.Core.Bool.{Bool, true, false}
-use mathlib.Core.List.{List, ◌++◌}
-use Prim.Native.Nat.{ℕ, ◌+◌, ◌-◌, ◌*◌, ◌/◌, ◌%◌, ◌^◌, ◌≤◌, ◌<◌}
+use mathlib.Core.List.{List, [], ◌++◌}
+use Prim.Native.Nat.{ℕ, zero, suc, ◌+◌, ◌-◌, ◌*◌, ◌/◌, ◌%◌, ◌^◌, ◌≤◌, ◌<◌}
 use native.Mathlib.Decide.{ℕ_discrete}
 use native.Mathlib.Omega.{arith}
 use lib.ListN.{length, get_or, take, drop, set, length-append, length-take, length-drop}
-use lib.Seq.{take-append-le, get_or-take, get_or-drop, get_or-set_same, get_or-set_other}
+use lib.Seq.{drop-drop, take-append-le, get_or-take, get_or-drop, get_or-set_same, get_or-set_other}
 use lib.Dec.{eqb}
 use lib.Bits.{bit_xor}
 use lib.Arith.{digits_lt, digits_div, digits_mod}
 use borrow.Author.Tests.{eq-eqb, le-leb, eqb-true, leb-true}
 use borrow.Rule.Slice.PartMut.{put_mid}
+use Rattle.std.specs.Simd.{first_chunks}
 use Rattle.basics.specs.declared.Verdict.{Verdict}
 use Rattle.basics.specs.Bytes.{build, bit, line, ◌⊕◌, Bytes}
 use Rattle.basics.specs.Padding.{col_bytes, padded, Clear}
@@ -96,6 +97,14 @@ column_in m c v key nonce work h0 h1 hc =
 -- byte p of the block with the columns of all seeds in it
 abbrev pub added : ℕ → List ℕ → List ℕ → List ℕ → ℕ → ℕ
 added m session seeds old p = bit_xor (get_or old p 0) (get_or (seed_column session m (line 32 seeds (p / col_bytes m))) (p % col_bytes m) 0)
+
+-- seed i of a set that is read as seeds
+pub seed-at : (k i : ℕ) (set : List ℕ) → i < k → get_or (first_chunks 32 k set) i [] ≡ line 32 set i
+seed-at zero i set h = absurd (omega arith)
+seed-at (suc k) zero set h = refl
+seed-at (suc k) (suc i) set h =
+    let next : 32 + i * 32 ≡ suc i * 32 = omega arith in
+    seed-at k i (drop 32 set) (omega arith) ∙ ap (take 32) (drop-drop (i * 32) 32 set ∙ ap (λ (x : ℕ). drop x set) next)
 
 -- the part of column i, lent from the block as it is now, with its column in it
 pub added_part : (m i a e : ℕ) (session seeds : List ℕ) {old now seed : List ℕ} → Filled (added m session seeds old) a old now

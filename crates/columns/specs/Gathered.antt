@@ -1,10 +1,11 @@
 -- A set of columns turned into rows, eight columns at a time: document 01, section 5, 'row j has at place i bit j of column i'.
-use Rattle.std.specs.Prelude.{◌≡◌, Bool, ◌&&◌, List, ℕ, ◌*◌, ◌/◌, ◌%◌, ◌≤◌, eqb, ltb, length, get_or}
+use Rattle.std.specs.Prelude.{◌≡◌, Bool, ◌&&◌, List, ℕ, ◌*◌, ◌/◌, ◌%◌, ◌+◌, ◌<◌, ◌≤◌, eqb, ltb, length, get_or}
 use Rattle.std.specs.Int.Bits.{bit_xor, bit_and}
 use Rattle.basics.specs.Choice.{pick}
 use Rattle.basics.specs.Bytes.{build, pack, bit_in}
 use Rattle.basics.specs.Padding.{col_bytes}
 use Rattle.words.specs.Code.{code_of}
+use Rattle.columns.specs.Turned.{byte_of}
 
 -- the byte that eight columns of m rows give to row j
 abbrev pub gathered : ℕ → List ℕ → ℕ → ℕ
@@ -13,6 +14,10 @@ gathered c eight j = pack 8 (λ e. bit_in c eight e j)
 -- rows of `width` bytes after row i took f i for its byte g; the other bytes stay
 unfoldable pub given : ℕ → ℕ → (ℕ → ℕ) → List ℕ → List ℕ
 given width g f old = build (length old) (λ p. pick (eqb (p % width) g) (f (p / width)) (get_or old p 0))
+
+-- what a call of `word` at b may answer, where b is below c: a number whose byte i is f (8 b + i)
+abbrev pub GivesWords : (ℕ → ℕ → Type 0) → ℕ → (ℕ → ℕ) → Type 0
+GivesWords post c f = (b w i : ℕ) → b < c → post b w → i < 8 → byte_of w i ≡ f (b * 8 + i)
 
 -- the byte that eight columns and eight others give to row j together: the first's xor what `keep` leaves of the others'. It serves taking (section 5), where
 -- the others are the message's columns and `keep` is the complement of the secret's byte.

@@ -5,13 +5,14 @@ ghost use Rattle.basics.specs.Padding.{col_bytes};
 ghost use Rattle.columns.specs.Turned.{eight_bytes, turned, eight_times, joined_words};
 ghost use Rattle.columns.specs.Gathered.{given, joined, eight_fit, joined_over};
 
-use crate::rows::{eight_bytes, give_word, turn};
+use crate::rows::{eight_bytes, give_words, turn};
+use wire::column_bytes;
 
 // A byte, eight times over.
 fn eight_times(x: u8) -> u64
     ensures { result ≡ eight_times x }
 {
-    (x as u64) * 0x0101_0101_0101_0101
+    u64::from(x) * 0x0101_0101_0101_0101
 }
 
 // Byte number `byte` of eight columns and of eight others, turned and joined.
@@ -22,58 +23,31 @@ fn joined_word(c: usize, keep: u64, eight: &[u8], others: &[u8], byte: usize) ->
     turn(eight_bytes(c, eight, byte)) ^ (turn(eight_bytes(c, others, byte)) & keep)
 }
 
-// Gives each row its byte g, eight rows at a time, and last the rows that are fewer than eight.
+// Gives each row its byte g from eight columns and eight others.
 fn join_bytes(rows: u16, width: u8, g: usize, keep: u8, eight: &[u8], others: &[u8], out: &mut [u8])
     requires { eight_fit rows width g (length eight.now) (length others.now) (length out.old) ≡ true }
     ensures { out.new ≡ given width g (joined (col_bytes rows) keep eight.now others.now) out.old }
 {
-    let m = rows as usize;
-    let w = width as usize;
-    let c = (m + 7) / 8;
-    let whole = m / 8;
-    let step = 8 * w;
+    let c = column_bytes(rows);
     let eight_keep = eight_times(keep);
-    let mut b = 0;
-    let mut a = 0;
-    while b < whole {
-        let e = a + step;
-        give_word(
-            joined_word(c, eight_keep, eight, others, b),
-            8,
-            w,
-            g,
-            &mut out[a..e],
-        );
-        a = e;
-        b += 1;
-    }
-    if b < c {
-        give_word(
-            joined_word(c, eight_keep, eight, others, b),
-            m % 8,
-            w,
-            g,
-            &mut out[a..],
-        );
-    }
+    give_words(
+        rows,
+        width,
+        g,
+        move |b| joined_word(c, eight_keep, eight, others, b),
+        out,
+    );
 }
 
 // Eight columns of m rows, eight others, and m rows of more than g bytes.
-fn eight_fit(m: usize, width: usize, g: usize, eight: usize, others: usize, out: usize) -> bool
-    requires { (m < 65536) × (width < 65536) }
-    ensures { result ≡ eight_fit m width g eight others out }
+fn eight_fit(rows: u16, width: u8, g: usize, eight: usize, others: usize, out: usize) -> bool
+    ensures { result ≡ eight_fit rows width g eight others out }
 {
-    let columns = 8 * ((m + 7) / 8);
-    if eight != columns {
-        return false;
-    }
-    if others != columns {
-        return false;
-    }
-    if out != m * width {
-        return false;
-    }
-    g < width
+    let columns = 8 * column_bytes(rows);
+    eight == columns
+        && others == columns
+        && out == usize::from(rows) * usize::from(width)
+        && g < usize::from(width)
 }
 
 // Gives each row its byte g from eight columns and eight others; nothing where the lengths do not fit.
@@ -88,14 +62,7 @@ pub fn join_eight(
 )
     ensures { out.new ≡ joined_over rows width g keep eight.now others.now out.old }
 {
-    if eight_fit(
-        rows as usize,
-        width as usize,
-        g,
-        eight.len(),
-        others.len(),
-        out.len(),
-    ) {
+    if eight_fit(rows, width, g, eight.len(), others.len(), out.len()) {
         join_bytes(rows, width, g, keep, eight, others, out);
     }
 }

@@ -1,17 +1,19 @@
 -- Laws of pads: their length, and how the hashed bytes are put together. Assumes nothing.
 use mathlib.Core.Path.{◌≡◌, refl, sym, ap, ap₂, ◌∙◌}
-use mathlib.Core.Bool.{true}
-use mathlib.Core.List.{List, [], ◌++◌, append-nil}
-use Prim.Native.Nat.{ℕ, ◌+◌, ◌-◌, ◌≤◌}
+use mathlib.Core.Bool.{Bool, true, false}
+use mathlib.Core.List.{List, [], ◌++◌, ◌∷◌, append-nil}
+use Prim.Native.Nat.{ℕ, ◌+◌, ◌-◌, ◌/◌, ◌%◌, ◌^◌, ◌<◌, ◌≤◌}
 use native.Mathlib.Nat.{sub-zero}
 use native.Mathlib.Omega.{arith}
 use lib.ListN.{length, take, drop, replicate, length-append}
 use lib.Seq.{drop_at, take_all, take-append-add, get_or-take}
 use borrow.Author.Tests.{eqb-true, leb-true, eq-eqb, le-leb}
 use borrow.Rule.Slice.PartMut.{put_mid}
-use Rattle.basics.specs.Bytes.{Bytes, from, build, be32, over, ◌⊕◌}
+use Rattle.std.specs.Int.{w32, to_be_bytes}
+use Rattle.basics.specs.Choice.{pick}
+use Rattle.basics.specs.Bytes.{Bytes, from, build, be32, ◌⊕◌}
 use Rattle.basics.proofs.Choice.{both, picked}
-use Rattle.basics.proofs.Bytes.{over_whole, length-build, get_or-build, xor_agree, xor_front, xor_strings_comm, zeros-xor}
+use Rattle.basics.proofs.Bytes.{length-build, get_or-build, xor_agree, xor_front, xor_strings_comm, zeros-xor}
 use Rattle.basics.proofs.Fill.{put_next}
 use Rattle.basics.specs.declared.Verdict.{Verdict}
 use Rattle.basics.specs.Verdicts.{unless, Gives}
@@ -50,6 +52,15 @@ pad_fit_passed session row l e =
 pub pad_fit_holds : (session row l : ℕ) → session ≡ 12 → row ≤ 32 → l ≤ 32 → pad_fit session row l ≡ true
 pad_fit_holds session row l a b c = simp (eq-eqb session 12 a, le-leb row 32 b, le-leb l 32 c)
 
+-- a string that is left as it was where they do not
+pub pad_unfit : (session : List ℕ) (j : ℕ) (row string : List ℕ) → (PadFit (length session) (length row) (length string) → ⊥) → string ≡ pad_masked session j row string
+unfolding pad_masked
+pad_unfit session j row string h = side (pad_fit (length session) (length row) (length string)) refl
+  where
+    side : (t : Bool) → pad_fit (length session) (length row) (length string) ≡ t → string ≡ pick t (string ⊕ pad_bytes session (length string) j row) string
+    side true e = absurd (h (pad_fit_passed _ _ _ e))
+    side false e = refl
+
 -- what a caller learns where the lengths fit
 pub pad_masked_fit : (session : List ℕ) (j : ℕ) (row string : List ℕ) → length session ≡ 12 → length row ≤ 32 → length string ≤ 32
     → pad_masked session j row string ≡ string ⊕ pad_bytes session (length string) j row
@@ -72,32 +83,40 @@ zeros_front k r h =
     ∙ xor_agree r _ (build (length r) (λ p. 0)) (λ p l. get_or-build k (λ p. 0) p (omega arith) ∙ sym (get_or-build (length r) (λ p. 0) p l))
     ∙ xor_strings_comm r (build (length r) (λ p. 0)) (sym (length-build (length r) (λ p. 0))) ∙ zeros-xor (length r) r refl
 
-module _ (d s n p q : List ℕ) {x y : List ℕ} (zeros : d ≡ replicate 48 0) (ex : x ≡ over s p) (ey : y ≡ over n q) (hs : length s ≡ 12) (hn : length n ≡ 4)
-    (hp : length p ≡ 12) (hq : length q ≡ 4) where
+module _ (rest s n : List ℕ) (zeros : rest ≡ replicate 36 0) (hs : length s ≡ 12) (hn : length n ≡ 4) where
   front : length (s ++ n) ≡ 16
   front = length-append s n ∙ omega arith
 
   -- after the two copies
-  copied : put_mid 12 4 (put_mid 0 12 d x) y ≡ (s ++ n) ++ replicate 32 0
-  copied =
-      ap₂ (λ (a b : List ℕ). put_mid 12 4 (put_mid 0 12 d a) b) (ex ∙ over_whole s p (hs ∙ sym hp)) (ey ∙ over_whole n q (hn ∙ sym hq))
-      ∙ ap (λ (a : List ℕ). put_mid 12 4 (put_mid 0 12 a s) n) zeros
-      ∙ ap (λ (a : List ℕ). put_mid 12 4 a n) (put_next 0 12 [] (replicate 48 0) s refl)
-      ∙ put_next 12 4 s (replicate 36 0) n hs
+  copied : put_mid 12 4 (s ++ rest) n ≡ (s ++ n) ++ replicate 32 0
+  copied = ap (λ (a : List ℕ). put_mid 12 4 (s ++ a) n) zeros ∙ put_next 12 4 s (replicate 36 0) n hs
 
   -- what the row is xored over
-  open_part : take 32 (drop 16 (put_mid 12 4 (put_mid 0 12 d x) y)) ≡ build 32 (λ p. 0)
+  open_part : take 32 (drop 16 (put_mid 12 4 (s ++ rest) n)) ≡ build 32 (λ p. 0)
   unfolding build from
   open_part = ap (λ (a : List ℕ). take 32 (drop 16 a)) copied ∙ ap (take 32) (drop_at (s ++ n) (replicate 32 0) 16 front)
 
-  pub three_parts : (r : List ℕ) {z : List ℕ} → length r ≤ 32 → z ≡ take 32 (drop 16 (put_mid 12 4 (put_mid 0 12 d x) y)) ⊕ r
-      → take (16 + length r) (put_mid 16 32 (put_mid 12 4 (put_mid 0 12 d x) y) z) ≡ (s ++ n) ++ r
+  pub three_parts : (r : List ℕ) {z : List ℕ} → length r ≤ 32 → z ≡ take 32 (drop 16 (put_mid 12 4 (s ++ rest) n)) ⊕ r
+      → take (16 + length r) (put_mid 16 32 (put_mid 12 4 (s ++ rest) n) z) ≡ (s ++ n) ++ r
   three_parts r {z} hr ez =
       ap (λ (a : List ℕ). take (16 + length r) (put_mid 16 32 a z)) copied
       ∙ ap (take (16 + length r)) (put_next 16 32 (s ++ n) (replicate 32 0) z front ∙ append-nil ((s ++ n) ++ z))
       ∙ ap (λ (k : ℕ). take (k + length r) ((s ++ n) ++ z)) (sym front)
       ∙ take-append-add (s ++ n) z (length r)
       ∙ ap (λ (a : List ℕ). (s ++ n) ++ a) (ap (take (length r)) (ez ∙ ap (λ (a : List ℕ). a ⊕ r) open_part) ∙ zeros_front 32 r hr)
+
+-- the number's bytes as std gives them
+pub number_bytes : (j : ℕ) {n : List ℕ} → j < 2 ^ 32 → n ≡ to_be_bytes w32 j → n ≡ be32 j
+number_bytes j h e =
+    let high : j / 16777216 % 256 ≡ j / 16777216 = omega arith in
+    e ∙ ap (λ (x : ℕ). x ∷ j / 65536 % 256 ∷ j / 256 % 256 ∷ j % 256 ∷ []) high
+
+-- the same of parts that are these: the session, the number's bytes and zeros
+pub input_parts : (j : ℕ) {session x y rest : List ℕ} → x ≡ session → y ≡ be32 j → rest ≡ replicate 36 0 → length session ≡ 12
+    → (r : List ℕ) {z : List ℕ} → length r ≤ 32 → z ≡ take 32 (drop 16 (put_mid 12 4 (x ++ rest) y)) ⊕ r
+    → take (16 + length r) (put_mid 16 32 (put_mid 12 4 (x ++ rest) y) z) ≡ (session ++ be32 j) ++ r
+input_parts j {session} {x} {y} {rest} ex ey zeros hs r {z} hr ez =
+    three_parts rest x y zeros (ap length ex ∙ hs) (ap length ey) r hr ez ∙ ap₂ (λ (a b : List ℕ). (a ++ b) ++ r) ex ey
 
 -- ---- the digest
 
