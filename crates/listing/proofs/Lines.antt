@@ -1,5 +1,5 @@
 -- Laws of the listing: which lines it has, from what the walk found. Assumes nothing.
-use mathlib.Core.Path.{◌≡◌, refl, sym, ap, ◌∙◌}
+use mathlib.Core.Path.{◌≡◌, refl, sym, ap, ap₂, ◌∙◌}
 use mathlib.Core.Bool.{Bool, true, false}
 use mathlib.Core.List.{List, ◌++◌}
 use Prim.Native.Nat.{ℕ, ◌-◌, ◌≤◌}
@@ -10,21 +10,24 @@ use lib.Seq.{take_all}
 use borrow.Author.Tests.{eq-eqb, ne_eqb}
 use Rattle.basics.specs.declared.Verdict.{Verdict}
 use Rattle.basics.specs.Choice.{pick}
-use Rattle.basics.specs.Verdicts.{or_else}
+use Rattle.basics.specs.Verdicts.{verdict, or_else}
 use Rattle.wire.specs.Received.{padding_verdict}
 use Rattle.reading.specs.declared.Walked.{Walked}
 use Rattle.wire.specs.declared.Shape.{Shape}
-use Rattle.reading.specs.Reading.{shape_in, tag_in, length_in, walked}
+use Rattle.reading.specs.Reading.{shape_in, tag_in, length_in, walk_verdict, Walks}
 use Rattle.listing.specs.declared.Listing.{Listing}
 use Rattle.listing.specs.Text.{listed}
 use Rattle.listing.specs.Lines.{columns_word, answers_word, shape_line, session_line, block_line, refused_line, list_verdict, listing_of}
 use Rattle.listing.proofs.Text.{decimal_short, length-hexed}
 
-module _ (message : List ℕ) {w : Walked} {v : Verdict} (found : w ≡ walked message)
-    (judged : v ≡ or_else w.verdict (padding_verdict w.tag w.shape.mode w.shape.rows message)) where
+module _ (message : List ℕ) {w : Walked} {v : Verdict} (found : Walks message w)
+    (judged : v ≡ or_else (verdict w.judged) (padding_verdict w.tag w.shape.mode w.shape.rows message)) where
   pub verdict_listed : v ≡ list_verdict message
-  unfolding list_verdict walked
-  verdict_listed = judged ∙ ap (λ (x : Walked). or_else x.verdict (padding_verdict x.tag x.shape.mode x.shape.rows message)) found
+  unfolding list_verdict
+  verdict_listed =
+      judged
+      ∙ ap₂ (λ (x : Verdict) (s : Shape). or_else x (padding_verdict w.tag s.mode s.rows message)) found.judges found.shape
+      ∙ ap (λ (t : ℕ). or_else (walk_verdict message) (padding_verdict t (shape_in message).mode (shape_in message).rows message)) found.tag
 
   pub listing_refused : (v.code ≡ 0 → ⊥) → refused_line v.code v.place ≡ listing_of message
   unfolding listing_of
@@ -33,10 +36,10 @@ module _ (message : List ℕ) {w : Walked} {v : Verdict} (found : w ≡ walked m
       ∙ sym (rw (ne_eqb (list_verdict message).code 0 (λ z. h (ap (λ (x : Verdict). x.code) verdict_listed ∙ z))))
 
   pub listing_lines : v.code ≡ 0 → shape_line w.tag w.shape ++ (session_line message ++ block_line w.len) ≡ listing_of message
-  unfolding listing_of walked
+  unfolding listing_of
   listing_lines z =
-      ap (λ (x : Walked). shape_line x.tag x.shape ++ (session_line message ++ block_line x.len)) found
-      ∙ sym (rw (eq-eqb (list_verdict message).code 0 (sym (ap (λ (x : Verdict). x.code) verdict_listed) ∙ z)))
+      rw (found.tag, found.shape, found.len)
+      (sym (rw (eq-eqb (list_verdict message).code 0 (sym (ap (λ (x : Verdict). x.code) verdict_listed) ∙ z))))
 
 -- ---- no listing is cut
 

@@ -1,17 +1,17 @@
 -- Laws of text: a listing that grows by one byte, and by more. Assumes nothing.
 use mathlib.Core.Path.{◌≡◌, refl, sym, ap, ap₂, ◌∙◌}
 use mathlib.Core.Bool.{Bool, true, false}
-use mathlib.Core.List.{List, [], ◌∷◌, ◌++◌, append_assoc}
+use mathlib.Core.List.{List, [], ◌∷◌, ◌++◌, append_assoc, append-nil}
 use Prim.Native.Nat.{ℕ, zero, suc, ◌+◌, ◌-◌, ◌/◌, ◌%◌, ◌<◌, ◌≤◌, min}
 use native.Mathlib.Numerals.{add-one}
 use native.Mathlib.Omega.{arith}
 use lib.ListN.{length, get_or, take, set, replicate, length-append, length-take, length-replicate}
 use lib.Seq.{length-take-le, take_all, take-append-le, take-suc, set_at}
-use lib.Dec.{leb}
-use borrow.Author.Tests.{le-leb, lt-leb}
+use lib.Dec.{leb, ltb}
+use borrow.Author.Tests.{ltb-true, ltb-false}
 use Rattle.basics.specs.Choice.{pick}
 use Rattle.listing.specs.declared.Listing.{Listing}
-use Rattle.listing.specs.Text.{lead, decimal, hex_digit, hexed, listed, Holds}
+use Rattle.listing.specs.Text.{lead, decimal, hex_digit, hexed, listed, pushed, grown, Holds}
 
 -- ---- listed
 
@@ -63,29 +63,66 @@ holds {l} s e =
       counts = sym (length-take-le l.len l.text (omega arith));
     }
 
--- a text put together in steps
-pub joined : (l : Listing) (a b : List ℕ) → l ≡ listed a → a ≡ b → l ≡ listed b
-joined l a b e f = e ∙ ap listed f
+-- ---- grown
 
-pub take_more : (s w : List ℕ) (i : ℕ) → i < length w → (s ++ take i w) ++ (get_or w i 0 ∷ []) ≡ s ++ take (i + 1) w
-take_more s w i h =
-    append_assoc s (take i w) (get_or w i 0 ∷ []) ∙ ap (λ (x : List ℕ). s ++ x) (sym (take-suc w i 0 h) ∙ ap (λ (k : ℕ). take k w) (sym (add-one i)))
+pub pushed_listed : (s : List ℕ) (b : ℕ) → pushed (listed s) b ≡ listed (s ++ (b ∷ []))
+unfolding pushed
+pushed_listed s b = cases (ltb (listed s).len 128) refl
+  where
+    cases : (t : Bool) → ltb (listed s).len 128 ≡ t → pick t (made (set (listed s).text (listed s).len b) ((listed s).len + 1)) (listed s) ≡ listed (s ++ (b ∷ []))
+    cases true e = listed_push s b refl (ltb-true _ _ e)
+    cases false e = listed_full s b refl (ltb-false _ _ e)
+
+pub grown_more : (l : Listing) (a b : List ℕ) → grown l (a ++ b) ≡ grown (grown l a) b
+unfolding grown
+grown_more l [] b = refl
+grown_more l (x ∷ a) b = grown_more (pushed l x) a b
+
+pub grown_one : (l : Listing) (b : ℕ) → grown l (b ∷ []) ≡ pushed l b
+unfolding grown
+grown_one l b = refl
+
+-- a word's next byte
+pub grown_next : (l : Listing) (w : List ℕ) (i : ℕ) → i < length w → grown l (take (i + 1) w) ≡ pushed (grown l (take i w)) (get_or w i 0)
+grown_next l w i h =
+    ap (grown l) (ap (λ (k : ℕ). take k w) (add-one i) ∙ take-suc w i 0 h)
+    ∙ grown_more l (take i w) (get_or w i 0 ∷ []) ∙ grown_one (grown l (take i w)) (get_or w i 0)
+
+pub grown_listed : (s w : List ℕ) → grown (listed s) w ≡ listed (s ++ w)
+unfolding grown
+grown_listed s [] = ap listed (sym (append-nil s))
+grown_listed s (b ∷ w) = ap (λ (l : Listing). grown l w) (pushed_listed s b) ∙ grown_listed (s ++ (b ∷ [])) w ∙ ap listed (append_assoc s (b ∷ []) w)
 
 -- ---- lead and hexed
 
-pub lead_there : (unit n : ℕ) → unit ≤ n → (48 + n / unit % 10) ∷ [] ≡ lead unit n
-unfolding lead
-lead_there unit n h = sym (rw (le-leb unit n h))
+-- the digits of n at each unit in turn
+abbrev pub leads : List ℕ → ℕ → List ℕ
+leads [] n = []
+leads (unit ∷ units) n = lead unit n ++ leads units n
 
-pub lead_none : (unit n : ℕ) → n < unit → [] ≡ lead unit n
-unfolding lead
-lead_none unit n h = sym (rw (lt-leb unit n h))
+pub leads_append : (a b : List ℕ) (n : ℕ) → leads (a ++ b) n ≡ leads a n ++ leads b n
+leads_append [] b n = refl
+leads_append (u ∷ a) b n = ap (λ (x : List ℕ). lead u n ++ x) (leads_append a b n) ∙ sym (append_assoc (lead u n) (leads a n) (leads b n))
 
-pub hexed_more : (s : List ℕ) (f : ℕ → ℕ) (i : ℕ) {x : ℕ} → x ≡ f i → (s ++ hexed i f) ++ (hex_digit (x / 16) ∷ hex_digit (x % 16) ∷ []) ≡ s ++ hexed (i + 1) f
+pub leads_next : (units : List ℕ) (n i : ℕ) → i < length units → leads (take (i + 1) units) n ≡ leads (take i units) n ++ lead (get_or units i 0) n
+leads_next units n i h =
+    ap (λ (x : List ℕ). leads x n) (ap (λ (k : ℕ). take k units) (add-one i) ∙ take-suc units i 0 h)
+    ∙ leads_append (take i units) (get_or units i 0 ∷ []) n ∙ ap (λ (x : List ℕ). leads (take i units) n ++ x) (append-nil (lead (get_or units i 0) n))
+
+pub decimal_leads : (n : ℕ) → decimal n ≡ leads (10000 ∷ 1000 ∷ 100 ∷ 10 ∷ []) n ++ ((48 + n % 10) ∷ [])
+unfolding decimal
+decimal_leads n = simp (append-nil, append_assoc)
+
+pub hexed_none : (f : ℕ → ℕ) → hexed 0 f ≡ []
 unfolding hexed
-hexed_more s f i {x} e =
-    append_assoc s (hexed i f) (hex_digit (x / 16) ∷ hex_digit (x % 16) ∷ [])
-    ∙ ap (λ (y : ℕ). s ++ (hexed i f ++ (hex_digit (y / 16) ∷ hex_digit (y % 16) ∷ []))) e ∙ ap (λ (k : ℕ). s ++ hexed k f) (sym (add-one i))
+hexed_none f = refl
+
+pub hexed_next : (f : ℕ → ℕ) (i : ℕ) → hexed (i + 1) f ≡ hexed i f ++ (hex_digit (f i / 16) ∷ hex_digit (f i % 16) ∷ [])
+unfolding hexed
+hexed_next f i = ap (λ (k : ℕ). hexed k f) (add-one i)
+
+-- the laws by which a text that grows step by step is one text
+pub ruleset growing = (grown_more, grown_next, leads_next, decimal_leads, hexed_none, hexed_next)
 
 -- ---- lengths
 

@@ -6,7 +6,7 @@ mod writing;
 
 pub use printing::list;
 
-// A text of `len` bytes, and zeros past it.
+// A text of `len` bytes, and zeros past it. C's `adw_list` and the programs read both, and `listed` names them, so neither is private.
 #[derive(Clone, Copy)]
 pub struct Listing {
     pub text: [u8; 128],

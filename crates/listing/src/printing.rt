@@ -1,93 +1,106 @@
 // The lines that the lister prints.
-ghost use Rattle.std.specs.Prelude.{◌≡◌, List, ◌++◌, ℕ, eqb};
+ghost use Rattle.std.specs.Prelude.{◌≡◌, eqb};
 ghost use Rattle.basics.specs.Choice.{pick};
-ghost use Rattle.basics.specs.Verdicts.{or_else};
+ghost use Rattle.basics.specs.Verdicts.{number, verdict, or_else};
 ghost use Rattle.wire.specs.Received.{padding_verdict};
-ghost use Rattle.listing.specs.Text.{listed, hexed, Holds};
+ghost use Rattle.listing.specs.Text.{hexed, grown, Holds};
 ghost use Rattle.listing.specs.Lines.{columns_word, answers_word, shape_line, session_byte, session_line, block_line, refused_line, listing_of};
 
 use crate::Listing;
-use crate::writing::{empty, put, put_decimal, put_hex};
-use basics::{Verdict, byte_or_zero};
-use reading::walk;
+use basics::{Refusal, byte_or_zero};
+use reading::{Walked, walk};
 use wire::{SESSION_BYTES, SESSION_VALUE_AT, Shape, TAG_COLUMNS, check_padding};
 
-// `columns` or `answers`, and the shape in decimal.
-fn put_shape(l: Listing, tag: u8, shape: Shape) -> Listing
-    ensures { (s : List ℕ) → l ≡ listed s → result ≡ listed (s ++ shape_line tag shape) }
-{
-    let kind = put_kind(l, tag);
-    let mode = put_decimal(put(kind, b" mode "), shape.mode as usize);
-    let rows = put_decimal(put(mode, b" rows "), shape.rows as usize);
-    let places = put_decimal(put(rows, b" places "), shape.places as usize);
-    let bytes = put_decimal(put(places, b" bytes "), shape.bytes as usize);
-    put(bytes, b"\n")
-}
-
-fn put_kind(l: Listing, tag: u8) -> Listing
-    ensures { (s : List ℕ) → l ≡ listed s → result ≡ listed (s ++ pick (eqb tag 3) columns_word answers_word) }
-{
-    if tag == TAG_COLUMNS {
-        put(l, b"columns")
-    } else {
-        put(l, b"answers")
+impl Listing {
+    // `columns` or `answers`.
+    fn put_kind(&mut self, tag: u8)
+        ensures { self.new ≡ grown self.old (pick (eqb tag 3) columns_word answers_word) }
+    {
+        if tag == TAG_COLUMNS {
+            self.put(b"columns");
+        } else {
+            self.put(b"answers");
+        }
     }
-}
 
-// The session's twelve bytes in hexadecimal.
-fn put_twelve(l: Listing, message: &[u8]) -> Listing
-    ensures { (s : List ℕ) → l ≡ listed s → result ≡ listed (s ++ hexed 12 (session_byte message.now)) }
-{
-    let mut out = l;
-    let mut i: usize = 0;
-    while i < SESSION_BYTES {
-        out = put_hex(out, byte_or_zero(message, SESSION_VALUE_AT + i));
-        i += 1;
+    // The kind, and the shape in decimal.
+    #[tactic(auto, using(crate::proofs::Text::growing), unfolding(crate::specs::Text::grown, crate::specs::Lines::shape_line))]
+    fn put_shape(&mut self, tag: u8, shape: Shape)
+        ensures { self.new ≡ grown self.old (shape_line tag shape) }
+    {
+        self.put_kind(tag);
+        self.put(b" mode ");
+        self.put_decimal(usize::from(shape.mode));
+        self.put(b" rows ");
+        self.put_decimal(usize::from(shape.rows));
+        self.put(b" places ");
+        self.put_decimal(usize::from(shape.places));
+        self.put(b" bytes ");
+        self.put_decimal(usize::from(shape.bytes));
+        self.put(b"\n");
     }
-    out
-}
 
-fn put_session(l: Listing, message: &[u8]) -> Listing
-    ensures { (s : List ℕ) → l ≡ listed s → result ≡ listed (s ++ session_line message.now) }
-{
-    put(put_twelve(put(l, b"session "), message), b"\n")
-}
+    // The session's twelve bytes in hexadecimal.
+    #[tactic(auto, using(crate::proofs::Text::growing), unfolding(crate::specs::Text::grown))]
+    fn put_twelve(&mut self, message: &[u8])
+        ensures { self.new ≡ grown self.old (hexed 12 (session_byte message.now)) }
+    {
+        for i in 0..SESSION_BYTES {
+            self.put_hex(byte_or_zero(message, SESSION_VALUE_AT + i));
+        }
+    }
 
-fn put_block(l: Listing, len: usize) -> Listing
-    ensures { (s : List ℕ) → l ≡ listed s → result ≡ listed (s ++ block_line len) }
-{
-    put(put_decimal(put(l, b"block "), len), b"\n")
-}
+    #[tactic(auto, using(crate::proofs::Text::growing), unfolding(crate::specs::Text::grown, crate::specs::Lines::session_line))]
+    fn put_session(&mut self, message: &[u8])
+        ensures { self.new ≡ grown self.old (session_line message.now) }
+    {
+        self.put(b"session ");
+        self.put_twelve(message);
+        self.put(b"\n");
+    }
 
-fn put_refusal(l: Listing, v: Verdict) -> Listing
-    ensures { (s : List ℕ) → l ≡ listed s → result ≡ listed (s ++ refused_line v.code v.place) }
-{
-    let code = put_decimal(put(l, b"refused "), v.code as usize);
-    put(put_decimal(put(code, b" at "), v.place), b"\n")
+    #[tactic(auto, using(crate::proofs::Text::growing), unfolding(crate::specs::Text::grown, crate::specs::Lines::block_line))]
+    fn put_block(&mut self, len: usize)
+        ensures { self.new ≡ grown self.old (block_line len) }
+    {
+        self.put(b"block ");
+        self.put_decimal(len);
+        self.put(b"\n");
+    }
+
+    #[tactic(auto, using(crate::proofs::Text::growing), unfolding(crate::specs::Text::grown, crate::specs::Lines::refused_line))]
+    fn put_refusal(&mut self, refusal: Refusal)
+        ensures { self.new ≡ grown self.old (refused_line (number refusal.reason) refusal.place) }
+    {
+        self.put(b"refused ");
+        self.put_decimal(refusal.reason as usize);
+        self.put(b" at ");
+        self.put_decimal(refusal.place);
+        self.put(b"\n");
+    }
 }
 
 // What the message is refused for, in section 7's order.
-fn judge(walked: Verdict, tag: u8, shape: Shape, message: &[u8]) -> Verdict
-    ensures { result ≡ or_else walked (padding_verdict tag shape.mode shape.rows message.now) }
+fn judge(walked: Walked, message: &[u8]) -> Result<(), Refusal>
+    ensures { verdict result ≡ or_else (verdict walked.judged) (padding_verdict walked.tag walked.shape.mode walked.shape.rows message.now) }
 {
-    if walked.code != 0 {
-        return walked;
-    }
-    check_padding(tag, shape, message)
+    walked.judged?;
+    check_padding(walked.tag, walked.shape, message)
 }
 
 // The listing of a message.
 pub fn list(message: &[u8]) -> Listing
     ensures { Holds (listing_of message.now) result }
 {
-    let w = walk(message);
-    let verdict = w.verdict;
-    let shape = w.shape;
-    let v = judge(verdict, w.tag, shape, message);
-    if v.code != 0 {
-        return put_refusal(empty(), v);
+    let walked = walk(message);
+    let mut listing = Listing::empty();
+    match judge(walked, message) {
+        Ok(()) => {
+            listing.put_shape(walked.tag, walked.shape);
+            listing.put_session(message);
+            listing.put_block(walked.len);
+        }
+        Err(refusal) => listing.put_refusal(refusal),
     }
-    let first = put_shape(empty(), w.tag, shape);
-    let second = put_session(first, message);
-    put_block(second, w.len)
+    listing
 }

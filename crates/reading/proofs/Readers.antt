@@ -3,26 +3,14 @@ use mathlib.Core.Path.{◌≡◌, refl, sym, ap, ap₂, ◌∙◌}
 use mathlib.Core.List.{List}
 use Prim.Native.Nat.{ℕ}
 use denote.Ref.{Bor}
-use Rattle.reading.specs.declared.Advance.{Advance}
 use Rattle.reading.specs.declared.Reader.{Reader}
-use Rattle.reading.specs.declared.Refusal.{Refusal}
+use Rattle.basics.specs.declared.Refusal.{Refusal}
 use Rattle.reading.specs.declared.Step as step
 use Rattle.reading.specs.declared.Step.TheVariants as case
 use Rattle.wire.specs.Message.{session_at}
-use Rattle.reading.specs.Reading.{cursor, start, shape_in, step_of, moved_by, advanced, walk_verdict}
+use Rattle.reading.specs.Reading.{cursor, start, shape_in, step_of, moved_by, walk_verdict}
 use Rattle.reading.specs.Readers.{reader_of, cursor_of, moved_to, ReaderStepped}
 use Rattle.reading.proofs.Reading.{Reads, walk_reads}
-
-pub stepped_by : (h : Reader) {a : Advance} → a ≡ advanced h.message.now h.place h.shape
-    → ReaderStepped h (record { message = h.message; place = a.place; shape = a.shape }) a.step
-unfolding advanced
-stepped_by h {a} e =
-    let said : a.step ≡ step_of h.message.now (cursor_of h) = ap (λ (x : Advance). x.step) e in
-    record {
-      answers = said;
-      moves = ap (λ (x : Advance). record { message = h.message; place = x.place; shape = x.shape }) e
-          ∙ ap (λ (t : step.Step). moved_to h (moved_by (cursor_of h) t)) (sym said);
-    }
 
 -- a step that answers the end or a refusal leaves the reader where it was, so the next one answers the same
 pub same_again : {before after later : Reader} {t u : step.Step} → ReaderStepped before after t → moved_by (cursor_of before) t ≡ cursor_of before → ReaderStepped after later u

@@ -3,6 +3,7 @@
 use mathlib.Core.Path.{◌≡◌, refl, sym, ap, ap₂, ◌∙◌}
 use mathlib.Core.Bool.{Bool, true, false, ◌||◌}
 use mathlib.Core.List.{List, ◌++◌}
+use Rattle.std.specs.Prelude.{Result, Ok, Err}
 use Prim.Native.Nat.{ℕ, zero, suc, ◌+◌, ◌*◌, ◌/◌, ◌%◌}
 use native.Mathlib.Omega.{arith}
 use lib.Dec.{eqb}
@@ -11,26 +12,28 @@ use lib.Seq.{take_at, take-length}
 use borrow.Author.Tests.{eq-eqb, ne_eqb, le-leb}
 use Rattle.basics.specs.declared.Verdict.{Verdict}
 use Rattle.basics.specs.Choice.{pick}
-use Rattle.basics.specs.Verdicts.{pass, unless}
-use Rattle.basics.proofs.Verdicts.{unless_zero, or_else_ok}
+use Rattle.basics.specs.Verdicts.{number, verdict, refusal_of, pass, unless}
+use Rattle.basics.proofs.Verdicts.{err_refuses, refusal_back, unless_zero, or_else_ok}
 use Rattle.wire.specs.declared.Shape.{Shape}
-use Rattle.wire.specs.Shapes.{verdict_of, length_of}
+use Rattle.wire.specs.Shapes.{shape_verdict, verdict_of, length_of}
 use Rattle.wire.specs.Message.{session_at, block_header_at, block_at, header, message_of, header_ok}
 use Rattle.wire.proofs.Shapes.{shape_zero}
 use Rattle.wire.proofs.Received.{own_tag, own_first, own_second, own_third, own_session, own_block, own_length}
 use Rattle.reading.specs.declared.Cursor.{Cursor}
-use Rattle.reading.specs.declared.Refusal.{Refusal}
+use Rattle.basics.specs.declared.Refusal.{Refusal}
+use Rattle.basics.specs.declared.Reason as reason
+use Rattle.basics.specs.declared.Reason.TheVariants as given
 use Rattle.reading.specs.declared.Step as step
 use Rattle.reading.specs.declared.Step.TheVariants as case
 use Rattle.reading.specs.Reading.{cursor, start, shape_in, tag_in, block_ok, step_verdict, field_at, answer, step_of, number_of, moved_by, after, Stepped, length_in, steps_verdict, walk_verdict}
 
 -- ---- answer
 
-pub answer_refused : {v a : Verdict} (field : step.Step) → v ≡ a → (v.code ≡ 0 → ⊥) → case.Refused (record { code = v.code; place = v.place }) ≡ answer a field
+pub answer_refused : {v : Verdict} (e : Refusal) (field : step.Step) → verdict (Err e) ≡ v → case.Refused e ≡ answer v field
 unfolding answer
-answer_refused {v} {a} field e h =
-    ap (λ (x : Verdict). case.Refused (record { code = x.code; place = x.place })) e
-    ∙ sym (rw (ne_eqb a.code 0 (λ z. h (ap (λ (x : Verdict). x.code) e ∙ z))))
+answer_refused {v} e field h =
+    ap (λ (x : Refusal). case.Refused x) (sym (refusal_back e) ∙ ap refusal_of h)
+    ∙ sym (rw (ne_eqb v.code 0 (λ z. err_refuses e (ap (λ (x : Verdict). x.code) h ∙ z))))
 
 pub answer_field : {v a : Verdict} {r field : step.Step} → v ≡ a → v.code ≡ 0 → r ≡ field → r ≡ answer a field
 unfolding answer
@@ -46,10 +49,6 @@ module _ (message : List ℕ) (s : Shape) {t : ℕ} (et : t ≡ tag_in message) 
   unfolding block_ok
   block_there len ek k el eh =
       eh ∙ ap (λ (x : ℕ). header_ok message block_header_at t x) el ∙ ap (λ (y : ℕ). header_ok message block_header_at y (length_of y s)) et ∙ sym (rw (told ek k))
-
-  pub block_not : {k : Bool} → k ≡ (eqb t 3 || eqb t 4) → k ≡ false → false ≡ block_ok message s
-  unfolding block_ok
-  block_not ek k = sym (rw (told ek k))
 
 -- ---- step_verdict, field_at and step_of
 
@@ -76,19 +75,14 @@ field_number message c =
     picked false a b x y = y
 
 module _ (message : List ℕ) (c : Cursor) where
-  pub step_refused : ((step_verdict message c).code ≡ 0 → ⊥)
-      → step_of message c ≡ case.Refused (record { code = (step_verdict message c).code; place = (step_verdict message c).place })
-  unfolding step_of
-  step_refused h = sym (answer_refused (field_at message c) refl h)
-
   pub step_field : (step_verdict message c).code ≡ 0 → step_of message c ≡ field_at message c
   unfolding step_of
   step_field h = sym (answer_field refl h refl)
 
   -- what a step's code shows
-  pub stepped_refused : {v : Verdict} → v ≡ step_verdict message c → (v.code ≡ 0 → ⊥) → Stepped message c (case.Refused (record { code = v.code; place = v.place }))
+  pub stepped_refused : (e : Refusal) → verdict (Err e) ≡ step_verdict message c → Stepped message c (case.Refused e)
   unfolding step_of
-  stepped_refused e h = record { answers = answer_refused (field_at message c) e h; number = e }
+  stepped_refused e h = record { answers = answer_refused e (field_at message c) h; number = h }
 
   pub stepped_field : {v : Verdict} {r : step.Step} → v ≡ step_verdict message c → v.code ≡ 0 → r ≡ field_at message c → Stepped message c r
   unfolding step_of
@@ -96,6 +90,46 @@ module _ (message : List ℕ) (c : Cursor) where
     answers = answer_field e z f;
     number = ap number_of f ∙ field_number message c ∙ sym (step_zero message c (sym (ap (λ (x : Verdict). x.code) e) ∙ z));
   }
+
+-- ---- a step's number is its verdict: each refusal of a step is one that the table has
+
+-- some answer has the verdict v
+abbrev Answered : Verdict → Type 0
+Answered v = (r : Result (Unit {0}) Refusal) × (verdict r ≡ v)
+
+unless_answered : (t : Bool) (why : reason.Reason) (place : ℕ) {next : Verdict} → Answered next → Answered (unless t (number why) place next)
+unfolding unless
+unless_answered true why place a = a
+unless_answered false why place a = (Err (record { reason = why; place = place }), refl)
+
+pass_answered : Answered pass
+pass_answered = (Ok tt, refl)
+
+shape_answered : (s : Shape) → Answered (verdict_of s)
+unfolding shape_verdict
+shape_answered s =
+    unless_answered _ given.Mode 0 (unless_answered _ given.Rows 0
+    (unless_answered _ given.Places 0 (unless_answered _ given.Bytes 0 (unless_answered _ given.Volume 0 pass_answered))))
+
+step_answered : (message : List ℕ) (c : Cursor) → Answered (step_verdict message c)
+unfolding step_verdict
+step_answered message c =
+    picked (eqb c.place 0) (unless_answered _ given.Field 0 (shape_answered (shape_in message)))
+    (picked (eqb c.place session_at) (unless_answered _ given.Field session_at pass_answered)
+    (picked (eqb c.place block_header_at) (unless_answered _ given.Field block_header_at pass_answered)
+    (unless_answered _ given.Field c.place pass_answered)))
+  where
+    picked : (t : Bool) {a b : Verdict} → Answered a → Answered b → Answered (pick t a b)
+    picked true x y = x
+    picked false x y = y
+
+pub step_number : (message : List ℕ) (c : Cursor) → number_of (step_of message c) ≡ step_verdict message c
+unfolding step_of
+step_number message c = let a = step_answered message c in side a.0 a.1
+  where
+    side : (r : Result (Unit {0}) Refusal) → verdict r ≡ step_verdict message c → number_of (answer (step_verdict message c) (field_at message c)) ≡ step_verdict message c
+    side (Ok x) e = ap number_of (sym (answer_field {r = field_at message c} e refl refl)) ∙ field_number message c ∙ e
+    side (Err f) e = ap number_of (sym (answer_refused f (field_at message c) e)) ∙ e
 
 -- ---- a step behind the end or after a refusal gives the same answer again, however often
 

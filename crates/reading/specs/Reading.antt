@@ -4,7 +4,7 @@ use Rattle.std.specs.Prelude.{Bool, ◌&&◌, ◌||◌, ◌≡◌, List, ℕ, ze
 use Rattle.basics.specs.declared.Verdict.{Verdict}
 use Rattle.basics.specs.Choice.{pick}
 use Rattle.basics.specs.Bytes.{be16_at}
-use Rattle.basics.specs.Verdicts.{at, pass, unless, or_else}
+use Rattle.basics.specs.Verdicts.{number, verdict, refusal_of, at, pass, unless, or_else}
 use Rattle.wire.specs.declared.Shape.{Shape}
 use Rattle.wire.specs.Shapes.{verdict_of, length_of}
 use Rattle.wire.specs.Message.{session_at, block_header_at, block_at, header_ok}
@@ -57,7 +57,7 @@ field_at message c =
 
 -- the refusal where the verdict is one, else the field
 unfoldable pub answer : Verdict → step.Step → step.Step
-answer v field = pick (eqb v.code 0) field (case.Refused (record { code = v.code; place = v.place }))
+answer v field = pick (eqb v.code 0) field (case.Refused (refusal_of v))
 
 unfoldable pub step_of : List ℕ → Cursor → step.Step
 step_of message c = answer (step_verdict message c) (field_at message c)
@@ -68,7 +68,7 @@ number_of (case.Shape s c) = pass
 number_of (case.Session place len c) = pass
 number_of (case.Block tag place len c) = pass
 number_of case.End = pass
-number_of (case.Refused r) = at r.code r.place
+number_of (case.Refused r) = at (number r.reason) r.place
 
 -- where the next step begins: behind the field; at the end and on a refusal the cursor stays
 abbrev pub moved_by : Cursor → step.Step → Cursor
@@ -110,5 +110,9 @@ steps_verdict message s len =
 abbrev pub walk_verdict : List ℕ → Verdict
 walk_verdict message = steps_verdict message (shape_in message) (length_in message)
 
-unfoldable pub walked : List ℕ → Walked
-walked message = record { verdict = walk_verdict message; shape = shape_in message; tag = tag_in message; len = length_in message }
+-- what the walk finds: the verdict, and what stands in the fields' places, also on a refusal
+pub record Walks (message : List ℕ) (w : Walked) : Type 0 where
+  pub judges : verdict w.judged ≡ walk_verdict message
+  pub shape : w.shape ≡ shape_in message
+  pub tag : w.tag ≡ tag_in message
+  pub len : w.len ≡ length_in message

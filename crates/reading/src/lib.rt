@@ -4,8 +4,7 @@
 mod holding;
 mod walking;
 
-use basics::Verdict;
-pub use holding::{new, next};
+pub use basics::Refusal;
 pub use walking::{judge_step, start, step_at, step_from, walk};
 use wire::Shape;
 
@@ -14,12 +13,6 @@ use wire::Shape;
 pub struct Cursor {
     pub place: usize,
     pub shape: Shape,
-}
-
-#[derive(Clone, Copy)]
-pub struct Refusal {
-    pub code: u8,
-    pub place: usize,
 }
 
 // What a step yields: a field with the cursor behind it, the end, or a refusal.
@@ -44,13 +37,13 @@ pub enum Step {
 // What the walk of a whole message found. On a refusal the fields hold what stands in their places, and 0 past the message's end.
 #[derive(Clone, Copy)]
 pub struct Walked {
-    pub verdict: Verdict,
+    pub judged: Result<(), Refusal>,
     pub shape: Shape,
     pub tag: u8,
     pub len: usize,
 }
 
-// A step together with where the next one begins.
+// A step together with where the next one begins. Place and shape stand apart here and in the reader, as `advanced` and `reader_of` name them.
 #[derive(Clone, Copy)]
 pub struct Advance {
     pub step: Step,

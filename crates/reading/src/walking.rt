@@ -1,35 +1,41 @@
 // The walk over a slice and a cursor by value.
 ghost use Rattle.std.specs.Prelude.{◌≡◌, ◌||◌, ◌+◌, ◌^◌, ◌<◌, eqb};
-ghost use Rattle.basics.specs.Verdicts.{unless, or_else};
+ghost use Rattle.basics.specs.Verdicts.{unless, verdict};
 ghost use Rattle.wire.specs.Shapes.{verdict_of};
 ghost use Rattle.wire.specs.Message.{header_ok};
-ghost use Rattle.reading.specs.Reading.{start as start₀, shape_in, tag_in, block_ok, step_verdict, field_at, Stepped, steps_verdict, walked, moved_by, advanced};
+ghost use Rattle.reading.specs.Reading.{cursor, start as start₀, shape_in, tag_in, block_ok, step_verdict, field_at, Stepped, steps_verdict, Walks, moved_by, advanced};
 
-use crate::{Advance, Cursor, Refusal, Step, Walked};
-use basics::{Verdict, byte_or_zero, refuse_unless};
+use crate::{Advance, Cursor, Step, Walked};
+use basics::{Reason, Refusal, byte_or_zero, check};
 use wire::{
     BLOCK_AT, BLOCK_HEADER_AT, SESSION_AT, SESSION_BYTES, SESSION_VALUE_AT, SHAPE_AT, SHAPE_BYTES,
     Shape, TAG_COLUMNS, TAG_SESSION, TAG_SHAPE, TAG_STRINGS, block_length, has_header, judge_shape,
     number,
 };
 
+impl Cursor {
+    fn at(place: usize, shape: Shape) -> Cursor
+        ensures { result ≡ cursor place shape }
+    {
+        Cursor { place, shape }
+    }
+}
+
 // Before the first field.
 pub fn start() -> Cursor
     ensures { result ≡ start₀ }
 {
-    let shape = Shape {
+    let none = Shape {
         mode: 0,
         rows: 0,
         places: 0,
         bytes: 0,
     };
-    Cursor {
-        place: SHAPE_AT,
-        shape,
-    }
+    Cursor::at(SHAPE_AT, none)
 }
 
 // The shape in field 1's value.
+#[tactic(auto, unfolding(crate::specs::Reading::shape_in))]
 fn shape_in(message: &[u8]) -> Shape
     ensures { result ≡ shape_in message.now }
 {
@@ -42,6 +48,7 @@ fn shape_in(message: &[u8]) -> Shape
 }
 
 // Columns, or masked strings.
+#[tactic(auto, using(std::proofs::lemmas::Bool::Decides::nat_tests))]
 fn is_block_tag(tag: u8) -> bool
     ensures { result ≡ (eqb tag 3 || eqb tag 4) }
 {
@@ -49,161 +56,102 @@ fn is_block_tag(tag: u8) -> bool
 }
 
 // Field 3's header has tag 3 or 4 with that tag's length.
+#[tactic(auto, unfolding(crate::specs::Reading::block_ok))]
 fn has_block(message: &[u8], shape: Shape) -> bool
     ensures { result ≡ block_ok message.now shape }
 {
     let tag = byte_or_zero(message, BLOCK_HEADER_AT);
-    if is_block_tag(tag) {
-        has_header(message, BLOCK_HEADER_AT, tag, block_length(tag, shape))
-    } else {
-        false
-    }
+    is_block_tag(tag) && has_header(message, BLOCK_HEADER_AT, tag, block_length(tag, shape))
 }
 
 // Refusal 10 at field 1's header, or 1 to 5 of its value.
-fn judge_first(message: &[u8]) -> Verdict
-    ensures { result ≡ unless (header_ok message.now 0 1 6) 10 0 (verdict_of (shape_in message.now)) }
+fn judge_first(message: &[u8]) -> Result<(), Refusal>
+    ensures { verdict result ≡ unless (header_ok message.now 0 1 6) 10 0 (verdict_of (shape_in message.now)) }
 {
-    refuse_unless(
+    check(
         has_header(message, SHAPE_AT, TAG_SHAPE, SHAPE_BYTES),
-        10,
+        Reason::Field,
         SHAPE_AT,
-        judge_shape(shape_in(message)),
-    )
+    )?;
+    judge_shape(shape_in(message))
 }
 
-// The number and the place of the step at a cursor: 0 at 0 for a field or the end.
-pub fn judge_step(message: &[u8], c: Cursor) -> Verdict
-    ensures { result ≡ step_verdict message.now c }
+// The refusal of the step at a cursor, if it is one.
+#[tactic(auto, using(std::proofs::lemmas::Bool::Decides::nat_tests), unfolding(crate::specs::Reading::step_verdict))]
+pub fn judge_step(message: &[u8], c: Cursor) -> Result<(), Refusal>
+    ensures { verdict result ≡ step_verdict message.now c }
 {
-    let place = c.place;
-    let pass = Verdict { code: 0, place: 0 };
-    if place == SHAPE_AT {
-        return judge_first(message);
-    }
-    if place == SESSION_AT {
-        return refuse_unless(
+    match c.place {
+        SHAPE_AT => judge_first(message),
+        SESSION_AT => check(
             has_header(message, SESSION_AT, TAG_SESSION, SESSION_BYTES),
-            10,
+            Reason::Field,
             SESSION_AT,
-            pass,
-        );
+        ),
+        BLOCK_HEADER_AT => check(has_block(message, c.shape), Reason::Field, BLOCK_HEADER_AT),
+        place => check(message.len() <= place, Reason::Field, place),
     }
-    let shape = c.shape;
-    if place == BLOCK_HEADER_AT {
-        return refuse_unless(has_block(message, shape), 10, BLOCK_HEADER_AT, pass);
-    }
-    refuse_unless(message.len() <= place, 10, place, pass)
 }
 
 // The field at a cursor whose step is no refusal.
+#[tactic(auto, using(std::proofs::lemmas::Bool::Decides::nat_tests), unfolding(crate::specs::Reading::field_at))]
 fn field_at(message: &[u8], c: Cursor) -> Step
     ensures { result ≡ field_at message.now c }
 {
-    let place = c.place;
-    if place == SHAPE_AT {
-        let shape = shape_in(message);
-        return Step::Shape(
-            shape,
-            Cursor {
-                place: SESSION_AT,
-                shape,
-            },
-        );
-    }
-    let shape = c.shape;
-    if place == SESSION_AT {
-        return Step::Session {
+    match c.place {
+        SHAPE_AT => {
+            let shape = shape_in(message);
+            Step::Shape(shape, Cursor::at(SESSION_AT, shape))
+        }
+        SESSION_AT => Step::Session {
             place: SESSION_VALUE_AT,
             len: SESSION_BYTES,
-            next: Cursor {
-                place: BLOCK_HEADER_AT,
-                shape,
-            },
-        };
+            next: Cursor::at(BLOCK_HEADER_AT, c.shape),
+        },
+        BLOCK_HEADER_AT => {
+            let tag = byte_or_zero(message, BLOCK_HEADER_AT);
+            let len = block_length(tag, c.shape);
+            Step::Block {
+                tag,
+                place: BLOCK_AT,
+                len,
+                next: Cursor::at(BLOCK_AT + len, c.shape),
+            }
+        }
+        _ => Step::End,
     }
-    if place == BLOCK_HEADER_AT {
-        let tag = byte_or_zero(message, BLOCK_HEADER_AT);
-        let len = block_length(tag, shape);
-        return Step::Block {
-            tag,
-            place: BLOCK_AT,
-            len,
-            next: Cursor {
-                place: BLOCK_AT + len,
-                shape,
-            },
-        };
-    }
-    Step::End
 }
 
 // One step: the field at the cursor, the end, or a refusal with its place.
 pub fn step_at(message: &[u8], c: Cursor) -> Step
     ensures { Stepped message.now c result }
 {
-    let v = judge_step(message, c);
-    if v.code != 0 {
-        return Step::Refused(Refusal {
-            code: v.code,
-            place: v.place,
-        });
+    match judge_step(message, c) {
+        Ok(()) => field_at(message, c),
+        Err(refusal) => Step::Refused(refusal),
     }
-    field_at(message, c)
-}
-
-// The first of two verdicts that refuses.
-fn or_else(a: Verdict, b: Verdict) -> Verdict
-    ensures { result ≡ or_else a b }
-{
-    if a.code == 0 { b } else { a }
 }
 
 // The four steps of a whole message.
-fn judge_walk(message: &[u8], shape: Shape, len: usize) -> Verdict
+fn judge_walk(message: &[u8], shape: Shape, len: usize) -> Result<(), Refusal>
     requires { len < 2 ^ 40 }
-    ensures { result ≡ steps_verdict message.now shape len }
+    ensures { verdict result ≡ steps_verdict message.now shape len }
 {
-    let v4 = judge_step(
-        message,
-        Cursor {
-            place: BLOCK_AT + len,
-            shape,
-        },
-    );
-    let v3 = or_else(
-        judge_step(
-            message,
-            Cursor {
-                place: BLOCK_HEADER_AT,
-                shape,
-            },
-        ),
-        v4,
-    );
-    let v2 = or_else(
-        judge_step(
-            message,
-            Cursor {
-                place: SESSION_AT,
-                shape,
-            },
-        ),
-        v3,
-    );
-    or_else(judge_step(message, start()), v2)
+    judge_step(message, start())?;
+    judge_step(message, Cursor::at(SESSION_AT, shape))?;
+    judge_step(message, Cursor::at(BLOCK_HEADER_AT, shape))?;
+    judge_step(message, Cursor::at(BLOCK_AT + len, shape))
 }
 
 // The walk of a whole message.
 pub fn walk(message: &[u8]) -> Walked
-    ensures { result ≡ walked message.now }
+    ensures { Walks message.now result }
 {
     let shape = shape_in(message);
     let tag = byte_or_zero(message, BLOCK_HEADER_AT);
     let len = block_length(tag, shape);
-    let verdict = judge_walk(message, shape, len);
     Walked {
-        verdict,
+        judged: judge_walk(message, shape, len),
         shape,
         tag,
         len,
@@ -215,34 +163,22 @@ fn moved_by(c: Cursor, s: Step) -> Cursor
     ensures { result ≡ moved_by c s }
 {
     match s {
-        Step::Shape(_, next) => next,
-        Step::Session {
-            place: _,
-            len: _,
-            next,
-        } => next,
-        Step::Block {
-            tag: _,
-            place: _,
-            len: _,
-            next,
-        } => next,
-        Step::End => c,
-        Step::Refused(_) => c,
+        Step::Shape(_, next) | Step::Session { next, .. } | Step::Block { next, .. } => next,
+        Step::End | Step::Refused(_) => c,
     }
 }
 
 // One step from a place and the shape found, for a reader to keep.
+#[tactic(auto, unfolding(crate::specs::Reading::advanced))]
 pub fn step_from(message: &[u8], place: usize, shape: Shape) -> Advance
     ensures { result ≡ advanced message.now place shape }
 {
-    let c = Cursor { place, shape };
+    let c = Cursor::at(place, shape);
     let step = step_at(message, c);
     let next = moved_by(c, step);
-    let found = next.shape;
     Advance {
         step,
         place: next.place,
-        shape: found,
+        shape: next.shape,
     }
 }
