@@ -2,22 +2,22 @@
 use mathlib.Core.Path.{◌≡◌, refl, sym, ap, ap₂, ◌∙◌}
 use mathlib.Core.Bool.{Bool, true, false}
 use mathlib.Core.List.{List, ◌++◌}
-use Prim.Native.Nat.{ℕ, zero, suc, ◌+◌, ◌*◌, ◌/◌, ◌%◌, ◌^◌, ◌≤◌, ◌<◌, min}
-use native.Mathlib.Nat.{mod-lt, div-add-mod', div-lt_iff_lt-mul, add-zero, zero-lt-suc, one-mul, mod-eq_of_lt, lt_of_le_of_lt, pow-suc}
-use native.Mathlib.Numerals.{add-one}
+use Prim.Native.Nat.{ℕ, zero, suc, ◌+◌, ◌-◌, ◌*◌, ◌/◌, ◌%◌, ◌^◌, ◌≤◌, ◌<◌, min}
+use native.Mathlib.Nat.{mod-lt, div-add-mod', div-lt_iff_lt-mul, add-zero, zero-add, zero-lt-suc, one-mul, mod-eq_of_lt, lt_of_le_of_lt, lt_of_lt_of_le}
 use native.Mathlib.Decide.{ℕ_discrete, dec_lt}
 use native.Mathlib.Omega.{arith}
 use lib.Arith.{digits_div, digits_mod}
 use lib.Bits.{bit_xor, bit_and, differ, and_zero_l, and_zero_r}
 use lib.Dec.{eqb, ltb}
-use lib.ListN.{length, get_or, take, drop, set, length-set, take-append-drop, get_or-eq_default}
+use lib.ListN.{length, get_or, take, drop, set, length-set, length-drop, take-append-drop, get_or-eq_default}
 use lib.Pow.{pow_pos, pow_mono}
-use lib.Seq.{get_or-set_same, get_or-set_other, take_at, get_or-take}
+use lib.Seq.{get_or-set_same, get_or-set_other, take_at, take_all, get_or-take, get_or-drop}
 use borrow.Author.Tests.{eq-eqb, ne_eqb, lt-ltb, le-ltb}
 use Rattle.basics.specs.Choice.{pick}
 use Rattle.basics.specs.Bytes.{build, pack, bit, ◌⊕◌}
 use Rattle.basics.specs.Padding.{col_bytes}
-use Rattle.basics.proofs.Bytes.{length-build, get_or-build, build_is, build_ext, pack_ext, xor-pack, pos_right, bit_small}
+use Rattle.basics.proofs.Bits.{pack-append}
+use Rattle.basics.proofs.Bytes.{length-build, get_or-build, build_is, build_ext, pack_ext, pack_small, xor-pack, pos_right, bit_small}
 use Rattle.basics.proofs.Choice.{picked}
 use Rattle.basics.proofs.Fill.{Filled, filled_none, filled_more}
 use Rattle.words.specs.Code.{Code, k, pairs, choices, code_of, parity, parity_digit, pair_digit}
@@ -89,6 +89,49 @@ module _ (mode : ℕ) (sel : List ℕ) (j : ℕ) where
       ∙ sym (ap (bit_xor (pack 8 (f x))) (xor-pack 8 (f (2 ^ t)) (f 0) (small (2 ^ t)) (small 0))
       ∙ xor-pack 8 (f x) (λ e. differ (f (2 ^ t) e) (f 0 e)) (small x) (λ e. differ_small (f (2 ^ t) e) (f 0 e) (small (2 ^ t) e) (small 0 e)))
 
+-- place i of the word that row x selects
+abbrev pub row_place : Code → List ℕ → ℕ → ℕ → ℕ
+row_place C sel i x = C.word (get_or sel x 0) i
+
+-- one more row's place, above those of the first e rows
+pub place_more : (C : Code) (sel : List ℕ) (i e : ℕ) {byte r place : ℕ} → byte ≡ pack e (row_place C sel i) → e < 8
+    → r ≡ get_or sel e 0 → place ≡ C.word r i
+    → (byte + place * 2 ^ e % 256 ≡ pack (e + 1) (row_place C sel i)) × (byte + place * 2 ^ e % 256 < 256)
+unfolding pack
+place_more C sel i e {byte} {r} {place} hb he hr hp =
+    let f : ℕ → ℕ = row_place C sel i in
+    let here : place ≡ f e = hp ∙ ap (λ (x : ℕ). C.word x i) hr in
+    let one : pack 1 (λ x. f (e + x)) ≡ f e = zero-add (f (e + 0)) ∙ ap f (add-zero e) in
+    let all : pack (e + 1) f ≡ f e * 2 ^ e + pack e f = pack-append e 1 f ∙ ap (λ (x : ℕ). x * 2 ^ e + pack e f) one in
+    let few : pack (e + 1) f < 256 = lt_of_lt_of_le (pack_small (e + 1) f (λ x. C.digit _ _)) (pow_mono {j = 8} (omega arith)) in
+    let whole : place * 2 ^ e ≡ f e * 2 ^ e = ap (λ (x : ℕ). x * 2 ^ e) here in
+    let kept : place * 2 ^ e % 256 ≡ place * 2 ^ e = mod-eq_of_lt (omega arith) in
+    (omega arith, omega arith)
+
+-- all eight
+pub places_all : (C : Code) (sel : List ℕ) (i : ℕ) {byte e : ℕ} → byte ≡ pack e (row_place C sel i) → e ≡ 8 → byte ≡ place_byte C sel 0 i
+unfolding place_byte
+places_all C sel i h e =
+    h ∙ ap (λ (n : ℕ). pack n (row_place C sel i)) e ∙ pack_ext 8 _ _ (λ x l. ap (row_place C sel i) (sym (zero-add x)))
+
+-- the rows from row j on, as a part of all
+pub places_from : (C : Code) (sel : List ℕ) (j i : ℕ) → place_byte C (take (length sel - j) (drop j sel)) 0 i ≡ place_byte C sel j i
+unfolding place_byte
+places_from C sel j i =
+    pack_ext 8 _ _
+    (λ x l.
+    ap (λ (r : ℕ). C.word r i)
+    (ap (λ (s : List ℕ). get_or s (0 + x) 0) (take_all (length sel - j) (drop j sel) (omega (arith, length-drop j sel)))
+    ∙ get_or-drop j sel (0 + x) 0 ∙ ap (λ (n : ℕ). get_or sel (j + n) 0) (zero-add x)))
+
+pub k_some : (mode : ℕ) → 0 < k (code_of mode)
+unfolding code_of
+k_some mode = cases (eqb mode 2)
+  where
+    cases : (b : Bool) → 0 < k (pick b choices pairs)
+    cases true = omega arith
+    cases false = omega arith
+
 -- ---- the table, by its front
 
 -- the code's 2 ^ t
@@ -110,15 +153,12 @@ front_filled {f} {i} {n} {old} {now} z e =
     ap (λ (s : List ℕ). take n s) z.holds ∙ ap (λ (x : ℕ). take x (build i f ++ drop i old)) (sym e)
     ∙ take_at (build i f) (drop i old) i (length-build i f) ∙ ap (λ (x : ℕ). build x f) e
 
--- the first byte, and twice as many
+-- the first byte
 pub begins_one : (C : Code) (sel : List ℕ) (j v : ℕ) (s : List ℕ) → length s ≡ 256 → v ≡ place_byte C sel j 0 → Begins C sel j (2 ^ 0) (set s 0 v)
 begins_one C sel j v s h e = record {
   long = length-set s 0 v ∙ h;
   front = front_filled (filled_more (filled_none (place_byte C sel j) s) (omega arith) e) refl;
 }
-
-pub begins_twice : {C : Code} {sel s : List ℕ} {j : ℕ} (t : ℕ) → Begins C sel j (2 ^ t + 2 ^ t) s → Begins C sel j (2 ^ (t + 1)) s
-begins_twice {C} {sel} {s} {j} t z = rw (let e : 2 ^ (t + 1) ≡ 2 ^ t + 2 ^ t = ap (λ (x : ℕ). 2 ^ x) (add-one t) ∙ pow-suc 2 t ∙ omega arith in e) z
 
 pub begins_at : {C : Code} {sel s : List ℕ} {j n : ℕ} → Begins C sel j n s → (i : ℕ) → i < n → get_or s i 0 ≡ place_byte C sel j i
 begins_at {C} {sel} {s} {j} {n} z i h =
@@ -147,14 +187,6 @@ added_at f c b i old p = pick (eqb (p % c) b) (pick (ltb (p / c) i) (bit_xor (ge
 pub record Added (f : ℕ → ℕ) (c b i : ℕ) (old now : List ℕ) : Type 0 where
   pub long : length now ≡ length old
   pub byte : (p : ℕ) → get_or now p 0 ≡ added_at f c b i old p
-
-pub added_none : (f : ℕ → ℕ) (c b : ℕ) (old : List ℕ) → Added f c b 0 old old
-added_none f c b old = record {
-  long = refl;
-  byte = λ p. sym
-      (ap (λ (t : Bool). pick (eqb (p % c) b) (pick t (bit_xor (get_or old p 0) (f (p / c))) (get_or old p 0)) (get_or old p 0)) (le-ltb (p / c) 0 (omega arith))
-      ∙ pick_same (eqb (p % c) b) (get_or old p 0));
-}
 
 module _ {f : ℕ → ℕ} {c b i at v : ℕ} {old now : List ℕ} (z : Added f c b i old now) (hb : b < c) (ha : at ≡ i * c + b) (hl : at < length old) (hv : v ≡ bit_xor (get_or now at 0) (f i)) where
   at-mod : at % c ≡ b
@@ -219,12 +251,6 @@ below_at d c b old p = pick (ltb (p % c) b) (bit_xor (get_or old p 0) (get_or d 
 pub record Below (d : List ℕ) (c b : ℕ) (old now : List ℕ) : Type 0 where
   pub long : length now ≡ length old
   pub byte : (p : ℕ) → p < length old → get_or now p 0 ≡ below_at d c b old p
-
-pub below_none : (d : List ℕ) (c : ℕ) (old : List ℕ) → Below d c 0 old old
-below_none d c old = record {
-  long = refl;
-  byte = λ p h. sym (ap (λ (t : Bool). pick t (bit_xor (get_or old p 0) (get_or d p 0)) (get_or old p 0)) (le-ltb (p % c) 0 (omega arith)));
-}
 
 pub below_more : {d : List ℕ} {c b : ℕ} {old now next : List ℕ} (f : ℕ → ℕ) → Below d c b old now → next ≡ added_bytes c b f now
     → ((p : ℕ) → p < length old → p % c ≡ b → f (p / c) ≡ get_or d p 0) → Below d c (b + 1) old next

@@ -1,6 +1,6 @@
 -- What a verdict of 0 says, of the lengths and of the whole of prepare and open. Assumes nothing.
 use mathlib.Core.Path.{◌≡◌, refl, sym, ap, ◌∙◌}
-use mathlib.Core.Bool.{Bool}
+use mathlib.Core.Bool.{Bool, true}
 use mathlib.Core.List.{List}
 use Prim.Native.Nat.{ℕ, ◌+◌, ◌*◌, ◌/◌, ◌<◌}
 use native.Mathlib.Omega.{arith}
@@ -15,7 +15,8 @@ use Rattle.wire.specs.Shapes.{k_of, shape_verdict, block_length}
 use Rattle.wire.specs.Message.{session_at, block_header_at, block_at, shape_bytes, header_ok}
 use Rattle.wire.specs.Received.{differs, block_verdict, received_verdict, received}
 use Rattle.wire.proofs.Shapes.{Passes, shape_ok, block_length_strings}
-use Rattle.columns.specs.Sets.{entry_bytes}
+use Rattle.columns.specs.Sets.{entry_bytes, set_fit}
+use Rattle.columns.proofs.Sets.{set_fit_holds}
 use Rattle.buyer.specs.Selections.{too_large, selections_verdict}
 use Rattle.buyer.specs.Prepare.{prepare_lengths, sets_padding, prepare_verdict}
 use Rattle.buyer.specs.Open.{open_lengths, open_verdict}
@@ -98,6 +99,19 @@ prepare_passed {v} {seeded} {mode} {m} {n} {l} {session} {first} {second} {selec
     let b = or_else_ok (prepare_lengths seeded mode m (length session) (length first) (length second) (length selections) message kept) _ a.1 in
     let d = or_else_ok (selections_verdict m n selections) _ b.1 in
     record { shape = shape_ok mode m n l a.0; lengths = lengths_passed refl b.0; small = selections_passed m n selections d.0; clear = d.1 }
+
+-- both sets then fit a block of k columns
+module _ {seeded : Bool} {mode m n l : ℕ} {session first second selections : List ℕ} {message kept block : ℕ}
+    (z : Prepares seeded mode m n l session first second selections message kept) (h : block ≡ k_of mode * col_bytes m) where
+  pub first_fits : set_fit seeded (k_of mode) m (length session) (length first) block ≡ true
+  first_fits =
+      set_fit_holds seeded (k_of mode) m _ _ _
+      (record { some = z.shape.rows-some; few = z.shape.rows_few; session_long = z.lengths.session_long; set_long = z.lengths.first_long; block_long = h })
+
+  pub second_fits : set_fit seeded (k_of mode) m (length session) (length second) block ≡ true
+  second_fits =
+      set_fit_holds seeded (k_of mode) m _ _ _
+      (record { some = z.shape.rows-some; few = z.shape.rows_few; session_long = z.lengths.session_long; set_long = z.lengths.second_long; block_long = h })
 
 pub record Opens (mode m n l : ℕ) (session selections kept message : List ℕ) (opened : ℕ) : Type 0 where
   pub shape : Passes mode m n l

@@ -1,7 +1,7 @@
 -- Laws of open: one row's part of the opened strings, and that the selected strings, opened, are the rows that open gives. Assumes nothing.
-use mathlib.Core.Path.{◌≡◌, sym, ap, ap₂, ◌∙◌}
+use mathlib.Core.Path.{◌≡◌, refl, sym, ap, ap₂, ◌∙◌}
 use mathlib.Core.List.{List}
-use Prim.Native.Nat.{ℕ, ◌+◌, ◌-◌, ◌*◌, ◌/◌, ◌%◌, ◌<◌}
+use Prim.Native.Nat.{ℕ, ◌+◌, ◌-◌, ◌*◌, ◌/◌, ◌%◌, ◌≤◌, ◌<◌}
 use native.Mathlib.Nat.{div-lt_iff_lt-mul}
 use native.Mathlib.Omega.{arith}
 use lib.Arith.{digits_div, digits_mod}
@@ -9,7 +9,9 @@ use lib.Bits.{bit_xor}
 use lib.ListN.{length, get_or, take, drop, length-drop}
 use lib.Seq.{get_or-take, get_or-drop, take_all}
 use Rattle.basics.specs.Bytes.{build, line, ◌⊕◌}
-use Rattle.basics.proofs.Bytes.{build_ext, pos_right}
+use Rattle.basics.proofs.Bytes.{build_ext, line_next, pos_right}
+use Rattle.basics.proofs.Fill.{Filled, filled_part}
+use borrow.Rule.Slice.PartMut.{put_mid}
 use Rattle.words.specs.Code.{code_of}
 use Rattle.construction.specs.Transfer.{opened}
 use Rattle.pads.specs.Pads.{pad_bytes}
@@ -39,6 +41,14 @@ module _ (session : List ℕ) (w l : ℕ) (kept strings : List ℕ) where
       (ap₂ (λ (x : ℕ) (t : List ℕ). get_or (pad_bytes session x j t) p 0) hn hr
       ∙ ap₂ (λ (x y : ℕ). get_or (pad_bytes session l x (line w kept x)) y 0)
       (sym (ap (λ (x : ℕ). (x + p) / l) ha ∙ digits_div j h)) (sym (ap (λ (x : ℕ). (x + p) % l) ha ∙ digits_mod j h))))
+
+-- one more row, opened in its part
+pub row_more : {f : ℕ → ℕ} (l j : ℕ) {i : ℕ} {old now ys : List ℕ} → i ≡ j → Filled f (j * l) old now → i * l + l ≤ length old
+    → ys ≡ build l (λ p. f (i * l + p)) → Filled f ((j + 1) * l) old (put_mid (i * l) (i * l + l - i * l) now ys)
+row_more {f} l j {i} {old} {now} e z h hy =
+    let begun : Filled f (i * l) old now = rw e z in
+    let next : (j + 1) * l ≡ i * l + l = line_next l j ∙ ap (λ (x : ℕ). x * l + l) (sym e) in
+    rw next (filled_part l begun refl h hy)
 
 -- all rows
 pub rows-opened : (mode m l w : ℕ) (session kept strings : List ℕ) {now : List ℕ} → w ≡ (code_of mode).width

@@ -1,7 +1,7 @@
 -- How the block of the column message and the kept rows come about in the message's own bytes: ((0 xor V) xor D) xor U is U xor V xor D. Assumes nothing.
-use mathlib.Core.Path.{◌≡◌, refl, sym, ap, ap₂, ◌∙◌}
+use mathlib.Core.Path.{◌≡◌, sym, ap, ap₂, ◌∙◌}
 use mathlib.Core.Bool.{Bool, true}
-use mathlib.Core.List.{List, [], ◌++◌, append-nil}
+use mathlib.Core.List.{List, ◌++◌, append-nil}
 use Prim.Native.Nat.{ℕ, ◌+◌, ◌-◌, ◌*◌, ◌/◌, ◌≤◌}
 use native.Mathlib.Omega.{arith}
 use lib.ListN.{length, take, drop, length-append, length-take, length-drop, drop_of_length-le}
@@ -10,12 +10,13 @@ use borrow.Rule.Slice.PartMut.{put_mid}
 use Rattle.basics.specs.Choice.{pick}
 use Rattle.basics.specs.Bytes.{build, ◌⊕◌}
 use Rattle.basics.specs.Padding.{col_bytes}
-use Rattle.basics.proofs.Bytes.{length-build, length-xor, xor_strings_assoc, zeros-xor, xor_strings_comm}
+use Rattle.basics.proofs.Bytes.{length-xor, xor_strings_assoc, zeros-xor, xor_strings_comm}
 use Rattle.basics.proofs.Choice.{picked}
 use Rattle.basics.proofs.Fill.{put_next}
 use Rattle.words.specs.Code.{code_of}
 use Rattle.wire.specs.Shapes.{k_of}
 use Rattle.wire.specs.Message.{header, message_of}
+use Rattle.wire.proofs.Message.{length-header}
 use Rattle.construction.specs.Transfer.{chosen, rows, message, kept}
 use Rattle.construction.proofs.Bytewise.{length-message}
 use Rattle.columns.specs.Sets.{columns_of, entry_bytes, set_fit}
@@ -23,6 +24,7 @@ use Rattle.columns.specs.Gathered.{rows_fit}
 use Rattle.columns.proofs.Sets.{SetFit, set_fit_passed, length-columns_of}
 use Rattle.buyer.specs.Prepare.{column_block, column_message, kept_columns, kept_rows}
 use Rattle.columns.proofs.Sizes.{k_of_lem, row_of}
+use Rattle.buyer.proofs.Judged.{Prepares}
 
 -- ---- a lent set of the right length
 
@@ -38,20 +40,18 @@ module _ (seeded : Bool) (mode m : ℕ) (session set old : List ℕ) (h : set_fi
       e ∙ picked _ _ (ap₂ (λ (x y : ℕ). set_fit seeded x m (length session) (length set) y) ec el ∙ h)
       ∙ ap (λ (x : ℕ). block ⊕ columns_of seeded x m session set) ec
 
-  -- added to zeros they stand alone
-  pub set_alone : (count : ℕ) (zeros : List ℕ) {now : List ℕ} → count ≡ k_of mode → zeros ≡ build (length old) (λ p. 0)
-      → now ≡ pick (set_fit seeded count m (length session) (length set) (length zeros)) (zeros ⊕ columns_of seeded count m session set) zeros
-      → now ≡ columns_of seeded (k_of mode) m session set
-  set_alone count zeros ec ez e =
-      set-added count zeros ec (ap length ez ∙ length-build (length old) (λ p. 0)) e
-      ∙ ap (λ (x : List ℕ). x ⊕ columns_of seeded (k_of mode) m session set) ez
-      ∙ zeros-xor (length old) (columns_of seeded (k_of mode) m session set) (length-columns_of seeded (k_of mode) m session set fit.set_long ∙ sym fit.block_long)
-
   pub set_long : length (columns_of seeded (k_of mode) m session set) ≡ k_of mode * col_bytes m
   set_long = length-columns_of seeded (k_of mode) m session set fit.set_long
 
   pub block_long : length old ≡ k_of mode * col_bytes m
   block_long = fit.block_long
+
+  -- added to zeros they stand alone
+  pub set_alone : {zeros now : List ℕ} → zeros ≡ build (length old) (λ p. 0) → now ≡ zeros ⊕ columns_of seeded (k_of mode) m session set
+      → now ≡ columns_of seeded (k_of mode) m session set
+  set_alone ez e =
+      e ∙ ap (λ (x : List ℕ). x ⊕ columns_of seeded (k_of mode) m session set) ez
+      ∙ zeros-xor (length old) (columns_of seeded (k_of mode) m session set) (set_long ∙ sym block_long)
 
 -- ---- the two outputs
 
@@ -92,10 +92,6 @@ module _ (seeded : Bool) (mode m : ℕ) (session second selections old : List �
 
 -- ---- the whole message
 
--- the header h over the front of a message d
-pub header-put : (d h : List ℕ) → put_mid 0 27 d h ≡ h ++ drop 27 d
-header-put d h = put_next 0 27 [] d h refl
-
 pub length-put : (d h : List ℕ) → length h ≡ 27 → 27 ≤ length d → length (h ++ drop 27 d) ≡ length d
 length-put d h lh l = length-append h (drop 27 d) ∙ simp length-drop (omega arith)
 
@@ -107,6 +103,15 @@ block-put d h z {now} e lh ld lz =
     ∙ ap (λ (x : List ℕ). (h ++ z) ++ x)
     (drop_of_length-le (drop 27 d) {i = length (h ++ drop 27 d) - 27} (omega (arith, length-put d h lh ld, length-drop 27 d)))
     ∙ append-nil (h ++ z)
+
+-- once nothing is refused, the message with its header is as long as its shape says
+pub header_long : {seeded : Bool} {mode m n l : ℕ} {session first second selections now : List ℕ} {kept : ℕ} (d : List ℕ)
+    → Prepares seeded mode m n l session first second selections (length d) kept → now ≡ header 3 (length d - 27) mode m n l session ++ drop 27 d
+    → length now ≡ 27 + k_of mode * col_bytes m
+header_long {seeded} {mode} {m} {n} {l} {session} d z e =
+    ap length e
+    ∙ length-put d _ (length-header 3 (length d - 27) mode m n l session z.lengths.session_long) (omega (arith, z.lengths.message_long))
+    ∙ z.lengths.message_long
 
 -- as long a part is lent to the block
 pub part_long : (s : List ℕ) (n : ℕ) → length s ≡ 27 + n → length (take (length s - 27) (drop 27 s)) ≡ n

@@ -22,34 +22,6 @@ fn place_of(mode: u8, r: u8, i: usize) -> u8
     (words::selected_byte(mode, r, i / 8) >> (i % 8)) % 2
 }
 
-// Place i of the words that the eight rows from row j select, row j's lowest.
-fn places(mode: u8, selections: &[u8], j: usize, i: usize) -> u8
-    requires { (i < k (code_of mode)) × (j < 65536) }
-    ensures { result ≡ place_byte (code_of mode) selections.now j i }
-{
-    let mut byte: u8 = 0;
-    let mut e: usize = 8;
-    while 0 < e {
-        e -= 1;
-        byte = byte * 2 + place_of(mode, byte_or_zero(selections, j + e), i);
-    }
-    byte
-}
-
-// From the bytes of 2^t columns those of twice as many.
-fn double(mode: u8, selections: &[u8], j: usize, t: usize, table: &mut [u8])
-    requires { (t < 8) × (2 ^ t < k (code_of mode)) × (j < 65536) × (Begins (code_of mode) selections.now j (2 ^ t) table.old) }
-    ensures { Begins (code_of mode) selections.now j (2 ^ t + 2 ^ t) table.new }
-{
-    let half = 1usize << t;
-    let turn = places(mode, selections, j, half) ^ table[0];
-    let mut x = 0;
-    while x < half {
-        table[half + x] = table[x] ^ turn;
-        x += 1;
-    }
-}
-
 // How often one column is doubled to k.
 fn doublings(mode: u8) -> usize
     ensures { (2 ^ result ≡ k (code_of mode)) × (result ≤ 8) }
@@ -57,41 +29,60 @@ fn doublings(mode: u8) -> usize
     if mode == CHOICES { 8 } else { 7 }
 }
 
-// The bytes that the eight rows from row j give to the k columns.
-fn fill_table(mode: u8, selections: &[u8], j: usize, table: &mut [u8])
-    requires { (j < 65536) × (length table.old ≡ 256) }
-    ensures { Begins (code_of mode) selections.now j (k (code_of mode)) table.new }
+// Place i of the words that the first eight of these rows select, the first row's lowest.
+fn places(mode: u8, rows: &[u8], i: usize) -> u8
+    requires { i < k (code_of mode) }
+    ensures { result ≡ place_byte (code_of mode) rows.now 0 i }
 {
-    let most = doublings(mode);
-    table[0] = places(mode, selections, j, 0);
-    let mut t = 0;
-    while t < most {
-        double(mode, selections, j, t, table);
-        t += 1;
+    let mut byte: u8 = 0;
+    for e in 0..8 {
+        byte += place_of(mode, byte_or_zero(rows, e), i) << e;
+    }
+    byte
+}
+
+// From the bytes of 2^t columns those of twice as many.
+fn double(mode: u8, rows: &[u8], t: usize, table: &mut [u8; MOST_COLUMNS])
+    requires few { t < 8 }
+    requires half { 2 ^ t < k (code_of mode) }
+    requires front { Begins (code_of mode) rows.now 0 (2 ^ t) table.old }
+    ensures { Begins (code_of mode) rows.now 0 (2 ^ t + 2 ^ t) table.new }
+{
+    let half = 1usize << t;
+    let turn = places(mode, rows, half) ^ table[0];
+    for x in 0..half {
+        table[half + x] = table[x] ^ turn;
+    }
+}
+
+// The bytes that the first eight of these rows give to the k columns.
+fn fill_table(mode: u8, rows: &[u8], table: &mut [u8; MOST_COLUMNS])
+    ensures { Begins (code_of mode) rows.now 0 (k (code_of mode)) table.new }
+{
+    table[0] = places(mode, rows, 0);
+    for t in 0..doublings(mode) {
+        double(mode, rows, t, table);
     }
 }
 
 // Adds a table of k bytes to byte b of k columns of c bytes.
-fn add_table(c: usize, b: usize, k: usize, table: &[u8], block: &mut [u8])
-    requires { (b < c) × (c ≤ 8192) × (k ≤ 256) × (k ≤ length table.now) × (length block.old ≡ k * c) }
+fn add_table(c: usize, b: usize, k: usize, table: &[u8; MOST_COLUMNS], block: &mut [u8])
+    requires { (b < c) × (c ≤ 8192) × (k ≤ 256) × (length block.old ≡ k * c) }
     ensures { block.new ≡ added_bytes c b (λ i. get_or table.now i 0) block.old }
 {
-    let mut i = 0;
-    let mut at = b;
-    while i < k {
-        block[at] = block[at] ^ table[i];
-        at += c;
-        i += 1;
+    for i in 0..k {
+        let at = i * c + b;
+        block[at] ^= table[i];
     }
 }
 
 // Adds byte b of D's columns.
 fn add_eight(mode: u8, c: usize, b: usize, selections: &[u8], block: &mut [u8])
-    requires { (b < c) × (c ≤ 8192) × (length block.old ≡ k (code_of mode) * c) }
+    requires { (b < c) × (c ≤ 8192) × (b * 8 ≤ length selections.now) × (length block.old ≡ k (code_of mode) * c) }
     ensures { block.new ≡ added_bytes c b (place_byte (code_of mode) selections.now (b * 8)) block.old }
 {
     let mut table = [0u8; MOST_COLUMNS];
-    fill_table(mode, selections, b * 8, &mut table);
+    fill_table(mode, &selections[b * 8..], &mut table);
     add_table(c, b, wire::columns_of(mode), &table, block);
 }
 
@@ -101,9 +92,7 @@ pub(crate) fn add_chosen(mode: u8, rows: u16, selections: &[u8], block: &mut [u8
     ensures { block.new ≡ block.old ⊕ chosen (code_of mode) rows selections.now }
 {
     let c = wire::column_bytes(rows);
-    let mut b = 0;
-    while b < c {
+    for b in 0..c {
         add_eight(mode, c, b, selections, block);
-        b += 1;
     }
 }

@@ -1,11 +1,14 @@
 // The buyer's calls (document 01, section 5): prepare, from columns and from seeds, and open. Lent buffers stand in the document's order.
 #![tactic(auto)]
 
+ghost use Rattle.basics.specs.Verdicts.{verdict};
 ghost use Rattle.buyer.specs.Prepare.{Prepared};
 ghost use Rattle.buyer.specs.Open.{Opened};
 ghost use Rattle.std.specs.Prelude.{true, false};
 
-use basics::Verdict;
+use basics::Refusal;
+use opening::Opening;
+use preparing::Preparing;
 use wire::Shape;
 
 mod choosing;
@@ -13,7 +16,7 @@ mod judging;
 mod opening;
 mod preparing;
 
-// Prepare from columns that are handed in.
+// Prepare from columns that are handed in. Both forms stay calls of their own, as C and document 01 have them.
 pub fn prepare_from_columns(
     shape: Shape,
     session: &[u8],
@@ -22,12 +25,19 @@ pub fn prepare_from_columns(
     selections: &[u8],
     message: &mut [u8],
     kept: &mut [u8],
-) -> Verdict
-    ensures { Prepared false shape.mode shape.rows shape.places shape.bytes session.now first.now second.now selections.now message.old kept.old result message.new kept.new }
+) -> Result<(), Refusal>
+    ensures { Prepared false shape.mode shape.rows shape.places shape.bytes
+        session.now first.now second.now selections.now message.old kept.old (verdict result) message.new kept.new }
 {
-    preparing::prepare(
-        false, shape, session, first, second, selections, message, kept,
-    )
+    let from_columns = Preparing {
+        seeded: false,
+        shape,
+        session,
+        first,
+        second,
+        selections,
+    };
+    from_columns.prepare(message, kept)
 }
 
 // Prepare from seeds, whose columns are worked out one at a time.
@@ -39,12 +49,19 @@ pub fn prepare_from_seeds(
     selections: &[u8],
     message: &mut [u8],
     kept: &mut [u8],
-) -> Verdict
-    ensures { Prepared true shape.mode shape.rows shape.places shape.bytes session.now first.now second.now selections.now message.old kept.old result message.new kept.new }
+) -> Result<(), Refusal>
+    ensures { Prepared true shape.mode shape.rows shape.places shape.bytes
+        session.now first.now second.now selections.now message.old kept.old (verdict result) message.new kept.new }
 {
-    preparing::prepare(
-        true, shape, session, first, second, selections, message, kept,
-    )
+    let from_seeds = Preparing {
+        seeded: true,
+        shape,
+        session,
+        first,
+        second,
+        selections,
+    };
+    from_seeds.prepare(message, kept)
 }
 
 // Open the received answer.
@@ -55,8 +72,16 @@ pub fn open(
     kept: &[u8],
     received: &[u8],
     opened: &mut [u8],
-) -> Verdict
-    ensures { Opened shape.mode shape.rows shape.places shape.bytes session.now selections.now kept.now received.now opened.old result opened.new }
+) -> Result<(), Refusal>
+    ensures { Opened shape.mode shape.rows shape.places shape.bytes
+        session.now selections.now kept.now received.now opened.old (verdict result) opened.new }
 {
-    opening::open_received(shape, session, selections, kept, received, opened)
+    let lent = Opening {
+        shape,
+        session,
+        selections,
+        kept,
+        received,
+    };
+    lent.open(opened)
 }
