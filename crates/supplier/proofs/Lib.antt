@@ -1,4 +1,4 @@
--- The layers above cite Unique, Seeds, Ready and Mode.
+-- The layers above cite Ready, Unique and Seeds.
 mod Masked
 mod Taken
 pub mod Ready

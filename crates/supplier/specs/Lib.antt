@@ -1,3 +1,4 @@
 pub mod Taking
 pub mod Masking
 pub mod Answer
+pub mod Calls

@@ -2,17 +2,20 @@
 #![tactic(auto)]
 
 ghost use Rattle.std.specs.Prelude.{true, false};
+ghost use Rattle.basics.specs.Verdicts.{verdict};
 ghost use Rattle.supplier.specs.Answer.{Answered};
 
-use basics::Verdict;
+use basics::Refusal;
+use lent::Answering;
 use wire::Shape;
 
 mod answering;
 mod judging;
+mod lent;
 mod masking;
 mod taking;
 
-// Answers from the columns that were taken.
+// Answers from the columns that were taken. Both forms stay calls of their own, as C and document 01 have them.
 pub fn answer_from_columns(
     shape: Shape,
     session: &[u8],
@@ -21,12 +24,20 @@ pub fn answer_from_columns(
     strings: &[u8],
     received: &[u8],
     message: &mut [u8],
-) -> Verdict
-    ensures { Answered false shape.mode shape.rows shape.places shape.bytes session.now secret.now taken.now strings.now received.now message.old result message.new }
+) -> Result<(), Refusal>
+    ensures { Answered false shape.mode shape.rows shape.places shape.bytes session.now secret.now taken.now strings.now received.now
+        message.old (verdict result) message.new }
 {
-    answering::answer(
-        false, shape, session, secret, taken, strings, received, message,
-    )
+    let call = Answering {
+        seeded: false,
+        shape,
+        session,
+        secret,
+        taken,
+        strings,
+        received,
+    };
+    call.answer(message)
 }
 
 // Answers from the seeds that were taken.
@@ -38,10 +49,18 @@ pub fn answer_from_seeds(
     strings: &[u8],
     received: &[u8],
     message: &mut [u8],
-) -> Verdict
-    ensures { Answered true shape.mode shape.rows shape.places shape.bytes session.now secret.now taken.now strings.now received.now message.old result message.new }
+) -> Result<(), Refusal>
+    ensures { Answered true shape.mode shape.rows shape.places shape.bytes session.now secret.now taken.now strings.now received.now
+        message.old (verdict result) message.new }
 {
-    answering::answer(
-        true, shape, session, secret, taken, strings, received, message,
-    )
+    let call = Answering {
+        seeded: true,
+        shape,
+        session,
+        secret,
+        taken,
+        strings,
+        received,
+    };
+    call.answer(message)
 }
