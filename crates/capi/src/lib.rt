@@ -1,8 +1,10 @@
-// The C library: thin exported functions over the public calls. A slice is a pointer and a length; a verdict is one number.
+// The C library: thin exported functions over the public calls. A slice is a pointer and a length; a verdict is one number. Names, parameters and their order
+// are what C links, so a shape comes as four numbers and no buffers are gathered in a struct.
 #![tactic(auto)]
 
 ghost use Rattle.std.specs.Prelude.{◌≡◌, true, false, eqb, length};
 ghost use Rattle.basics.specs.Choice.{pick};
+ghost use Rattle.basics.specs.Verdicts.{verdict};
 ghost use Rattle.symmetric.specs.Sha.{sha256};
 ghost use Rattle.symmetric.specs.ChaCha.{chacha20};
 ghost use Rattle.symmetric.specs.Calls.{hash_verdict, block_verdict};
@@ -13,13 +15,14 @@ ghost use Rattle.listing.specs.Text.{listed};
 ghost use Rattle.listing.specs.Lines.{listing_of};
 ghost use Rattle.capi.specs.Exports.{verdict_number, Exports};
 
-use basics::{Verdict, copy};
+use basics::{Refusal, Verdict};
 use wire::Shape;
 
-// A verdict as one number: success is 0.
-fn number(v: Verdict) -> u64
-    ensures { result ≡ verdict_number v }
+// An answer as one number: success is 0.
+fn number(answer: Result<(), Refusal>) -> u64
+    ensures { result ≡ verdict_number (verdict answer) }
 {
+    let v = Verdict::from(answer);
     (v.code as u64) * 4294967296 + (v.place as u64) % 4294967296
 }
 
@@ -165,7 +168,6 @@ pub extern "C" fn adw_list(message: &[u8], text: &mut [u8]) -> usize
         return 0;
     }
     let l = listing::list(message);
-    let bytes = l.text;
-    copy(&bytes, text);
+    text.copy_from_slice(&l.text);
     l.len
 }

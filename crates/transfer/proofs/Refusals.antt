@@ -3,7 +3,6 @@ use mathlib.Core.Path.{◌≡◌, refl, sym, ap, ◌∙◌, subst}
 use mathlib.Core.Bool.{Bool}
 use mathlib.Core.List.{List, ◌++◌}
 use Prim.Native.Nat.{ℕ, ◌<◌}
-use native.Mathlib.Decide.{ℕ_discrete}
 use native.Mathlib.Omega.{arith}
 use borrow.Author.Tests.{eq-eqb, ne_eqb}
 use Rattle.basics.specs.declared.Verdict.{Verdict}
@@ -13,9 +12,9 @@ use Rattle.basics.proofs.Verdicts.{gives_refused}
 use Rattle.reading.specs.declared.Cursor.{Cursor}
 use Rattle.reading.specs.declared.Step.{Step}
 use Rattle.reading.specs.declared.Step.TheVariants as case
-use Rattle.reading.specs.Reading.{shape_in, tag_in, length_in, step_verdict, step_of, number_of, moved_by}
+use Rattle.reading.specs.Reading.{shape_in, tag_in, length_in, number_of, moved_by}
 use Rattle.reading.specs.Readers.{cursor_of, moved_to}
-use Rattle.reading.proofs.Reading.{step_refused, step_field, stepped_field}
+use Rattle.reading.proofs.Reading.{step_number}
 use Rattle.listing.specs.Text.{listed}
 use Rattle.listing.specs.Lines.{shape_line, session_line, block_line, refused_line, list_verdict, listing_of}
 use Rattle.transfer.specs.Rules.{Rule, Decided, step_rules}
@@ -45,14 +44,7 @@ module _ (message : List ℕ) where
       ap (λ (t : Bool). pick t (listed_lines message) (refused_line (list_verdict message).code (list_verdict message).place))
       (eq-eqb (list_verdict message).code 0 (ap (λ (x : Verdict). x.code) e))
 
--- a step's number is its verdict, and a refusal leaves the reader where it was
-step_number : (message : List ℕ) (c : Cursor) → number_of (step_of message c) ≡ step_verdict message c
-step_number message c = side (ℕ_discrete (step_verdict message c).code 0)
-  where
-    side : Dec ((step_verdict message c).code ≡ 0) → number_of (step_of message c) ≡ step_verdict message c
-    side (yes z) = ap number_of (step_field message c z) ∙ (stepped_field message c refl z refl).number
-    side (no n) = ap number_of (step_refused message c n)
-
+-- a refusal leaves the reader where it was
 refused_stays : (c : Cursor) (t : Step) → 0 < (number_of t).code → moved_by c t ≡ c
 refused_stays c (case.Shape s next) h = absurd (omega arith)
 refused_stays c (case.Session place len next) h = absurd (omega arith)

@@ -1,7 +1,7 @@
 -- Two results that one contract allows are equal, for each public call: a contract gives a verdict and the bytes of each output, or the answer, by an
 -- equation. Assumes nothing.
 use mathlib.Core.Path.{◌≡◌, sym, ap, ◌∙◌}
-use Rattle.basics.proofs.Verdicts.{gives_unique}
+use Rattle.basics.proofs.Verdicts.{gives_unique, answer_unique}
 use Rattle.reading.specs.declared.Step.{Step}
 use Rattle.reading.specs.Reading.{moved_by}
 use Rattle.reading.specs.Readers.{cursor_of, moved_to}
@@ -9,6 +9,7 @@ use Rattle.transfer.specs.Demands.{Unique}
 
 pub unique : Unique
 unique = record {
+  told = answer_unique;
   hash = λ input digest r₁ r₂ digest₁ digest₂ g h. gives_unique g h;
   block = λ key nonce counter out r₁ r₂ out₁ out₂ g h. gives_unique g h;
   prepare = λ seeded mode m n l session first second selections message kept r₁ r₂ message₁ message₂ kept₁ kept₂ g h.

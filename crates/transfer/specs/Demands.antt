@@ -1,11 +1,12 @@
 -- The three demands over whole calls, as types: what `proofs/` proves. A call is spoken of through its contract alone, the record that its `ensures` cites.
-use Rattle.std.specs.Prelude.{◌≡◌, Bool, true, false, List, ◌++◌, ℕ, ◌*◌, ◌<◌, length, drop}
+use Rattle.std.specs.Prelude.{◌≡◌, Bool, true, false, List, ◌++◌, ℕ, ◌*◌, ◌<◌, length, drop, Result}
 use Rattle.std.specs.Borrow.{Bor}
+use Rattle.basics.specs.declared.Refusal.{Refusal}
 use Rattle.basics.specs.declared.Verdict.{Verdict}
 use Rattle.basics.specs.Choice.{pick}
 use Rattle.basics.specs.Bytes.{Bytes, bit_at, bit_in, line}
 use Rattle.basics.specs.Padding.{col_bytes}
-use Rattle.basics.specs.Verdicts.{pass, Gives}
+use Rattle.basics.specs.Verdicts.{verdict, pass, Gives}
 use Rattle.symmetric.specs.Sha.{sha256}
 use Rattle.symmetric.specs.ChaCha.{chacha20}
 use Rattle.symmetric.specs.Calls.{hash_verdict, block_verdict}
@@ -219,6 +220,8 @@ Demand3 =
 -- ---- section 11: two results that one contract allows are equal, for each public call
 
 pub record Unique : Type 0 where
+  -- a call answers success or a refusal, of which its contract tells the verdict: one verdict, one answer
+  pub told : (a b : Result (Unit {0}) Refusal) → verdict a ≡ verdict b → a ≡ b
   pub hash : (input digest : List ℕ) (r₁ r₂ : Verdict) (digest₁ digest₂ : List ℕ)
       → Gives (hash_verdict (length input) (length digest)) (sha256 input) digest r₁ digest₁
       → Gives (hash_verdict (length input) (length digest)) (sha256 input) digest r₂ digest₂
