@@ -1,165 +1,58 @@
 // The three calls on the buffers as they are, each with its part of the line (peer/CASES.md, "The line").
-use crate::lending::{
-    ANSWER, ANSWERED, FIRST, KEPT, MESSAGE, OPEN, OPENED, PREPARE, SECOND, SECRET, SELECTIONS,
-    SESSION, STRINGS, TAKEN, lent, shape_of,
-};
-use crate::row::Case;
+use crate::buffers::Buffers;
+use crate::lending::Lender;
+use crate::row::{Buffer, Call, Case};
 use crate::show;
-use basics::Verdict;
+use crate::show::{Digest, Outcome};
+use std::io;
 
-// What a call is lent of a buffer.
-fn part(case: Case, call: usize, buffer: usize, bytes: &[u8]) -> &[u8] {
-    let n = lent(case, call, buffer, bytes);
-    &bytes[..n]
-}
-
-fn prepare_lent(
-    case: Case,
-    session: &[u8],
-    first: &[u8],
-    second: &[u8],
-    selections: &[u8],
-    message: &mut [u8],
-    kept: &mut [u8],
-) -> Verdict {
-    let s = shape_of(case, PREPARE);
-    if case.seeded {
-        buyer::prepare_from_seeds(s, session, first, second, selections, message, kept)
+pub(crate) fn prepare(rt: &impl Print, case: &Case, b: &mut Buffers) -> io::Result<()> {
+    let call = Call::Prepare;
+    let lender = Lender { case, call };
+    let shape = case.shape_of(call);
+    let session = lender.lend(Buffer::Session, &b.session);
+    let first = lender.lend(Buffer::First, &b.first);
+    let second = lender.lend(Buffer::Second, &b.second);
+    let selections = lender.lend(Buffer::Selections, &b.selections);
+    let message = lender.lend_mut(Buffer::Message, &mut b.message);
+    let kept = lender.lend_mut(Buffer::Kept, &mut b.kept);
+    let v = if case.seeded {
+        buyer::prepare_from_seeds(shape, session, first, second, selections, message, kept)
     } else {
-        buyer::prepare_from_columns(s, session, first, second, selections, message, kept)
-    }
+        buyer::prepare_from_columns(shape, session, first, second, selections, message, kept)
+    };
+    print!(rt; " p {} {} {}", Outcome(v), Digest(message), Digest(kept))
 }
 
-// The call, on what it is lent.
-fn run_prepare(
-    case: Case,
-    session: &[u8],
-    first: &[u8],
-    second: &[u8],
-    selections: &[u8],
-    message: &mut [u8],
-    kept: &mut [u8],
-) {
-    let v = prepare_lent(case, session, first, second, selections, message, kept);
-    show::text(b" p");
-    show::verdict(v);
-    show::digest(message);
-    show::digest(kept);
-}
-
-pub(crate) fn prepare(
-    case: Case,
-    session: &[u8],
-    first: &[u8],
-    second: &[u8],
-    selections: &[u8],
-    message: &mut [u8],
-    kept: &mut [u8],
-) {
-    let a = lent(case, PREPARE, MESSAGE, message);
-    let b = lent(case, PREPARE, KEPT, kept);
-    run_prepare(
-        case,
-        part(case, PREPARE, SESSION, session),
-        part(case, PREPARE, FIRST, first),
-        part(case, PREPARE, SECOND, second),
-        part(case, PREPARE, SELECTIONS, selections),
-        &mut message[..a],
-        &mut kept[..b],
-    );
-}
-
-fn answer_lent(
-    case: Case,
-    session: &[u8],
-    secret: &[u8],
-    taken: &[u8],
-    strings: &[u8],
-    received: &[u8],
-    message: &mut [u8],
-) -> Verdict {
-    let s = shape_of(case, ANSWER);
-    if case.seeded {
-        supplier::answer_from_seeds(s, session, secret, taken, strings, received, message)
+pub(crate) fn answer(rt: &impl Print, case: &Case, b: &mut Buffers) -> io::Result<()> {
+    let call = Call::Answer;
+    let lender = Lender { case, call };
+    let shape = case.shape_of(call);
+    let session = lender.lend(Buffer::Session, &b.session);
+    let secret = lender.lend(Buffer::Secret, &b.secret);
+    let taken = lender.lend(Buffer::Taken, &b.taken);
+    let strings = lender.lend(Buffer::Strings, &b.strings);
+    let received = lender.lend(Buffer::Message, &b.message);
+    let answered = lender.lend_mut(Buffer::Answered, &mut b.answered);
+    show::listing(rt, received)?;
+    let v = if case.seeded {
+        supplier::answer_from_seeds(shape, session, secret, taken, strings, received, answered)
     } else {
-        supplier::answer_from_columns(s, session, secret, taken, strings, received, message)
-    }
+        supplier::answer_from_columns(shape, session, secret, taken, strings, received, answered)
+    };
+    print!(rt; " a {} {}", Outcome(v), Digest(answered))
 }
 
-fn run_answer(
-    case: Case,
-    session: &[u8],
-    secret: &[u8],
-    taken: &[u8],
-    strings: &[u8],
-    received: &[u8],
-    message: &mut [u8],
-) {
-    show::listing(received);
-    let v = answer_lent(case, session, secret, taken, strings, received, message);
-    show::text(b" a");
-    show::verdict(v);
-    show::digest(message);
-}
-
-pub(crate) fn answer(
-    case: Case,
-    session: &[u8],
-    secret: &[u8],
-    taken: &[u8],
-    strings: &[u8],
-    message: &[u8],
-    answered: &mut [u8],
-) {
-    let a = lent(case, ANSWER, ANSWERED, answered);
-    run_answer(
-        case,
-        part(case, ANSWER, SESSION, session),
-        part(case, ANSWER, SECRET, secret),
-        part(case, ANSWER, TAKEN, taken),
-        part(case, ANSWER, STRINGS, strings),
-        part(case, ANSWER, MESSAGE, message),
-        &mut answered[..a],
-    );
-}
-
-fn run_open(
-    case: Case,
-    session: &[u8],
-    selections: &[u8],
-    kept: &[u8],
-    received: &[u8],
-    opened: &mut [u8],
-) {
-    show::listing(received);
-    let v = buyer::open(
-        shape_of(case, OPEN),
-        session,
-        selections,
-        kept,
-        received,
-        opened,
-    );
-    show::text(b" o");
-    show::verdict(v);
-    show::digest(opened);
-}
-
-pub(crate) fn open(
-    case: Case,
-    session: &[u8],
-    selections: &[u8],
-    kept: &[u8],
-    answered: &[u8],
-    opened: &mut [u8],
-) {
-    let a = lent(case, OPEN, OPENED, opened);
-    run_open(
-        case,
-        part(case, OPEN, SESSION, session),
-        part(case, OPEN, SELECTIONS, selections),
-        part(case, OPEN, KEPT, kept),
-        part(case, OPEN, ANSWERED, answered),
-        &mut opened[..a],
-    );
+pub(crate) fn open(rt: &impl Print, case: &Case, b: &mut Buffers) -> io::Result<()> {
+    let call = Call::Open;
+    let lender = Lender { case, call };
+    let shape = case.shape_of(call);
+    let session = lender.lend(Buffer::Session, &b.session);
+    let selections = lender.lend(Buffer::Selections, &b.selections);
+    let kept = lender.lend(Buffer::Kept, &b.kept);
+    let received = lender.lend(Buffer::Answered, &b.answered);
+    let opened = lender.lend_mut(Buffer::Opened, &mut b.opened);
+    show::listing(rt, received)?;
+    let v = buyer::open(shape, session, selections, kept, received, opened);
+    print!(rt; " o {} {}", Outcome(v), Digest(opened))
 }

@@ -2,6 +2,7 @@
 // The file stdin is peer/cases.txt, and stdout is what the independent second program prints.
 #![tactic(auto)]
 
+mod buffers;
 mod calls;
 mod inputs;
 mod lending;
@@ -9,30 +10,30 @@ mod row;
 mod running;
 mod show;
 
-const STDIN_FILENO: i32 = 0;
-
-const LINE_BYTES: usize = 127;
+use row::{Case, LINE_BYTES};
+use std::io;
+use std::io::{ErrorKind, Read};
 
 // Far more rows than there are.
 const MOST_ROWS: u32 = 65536;
 
-// Runs the case of the next row; false where no row is left.
-fn next(number: u32) -> bool {
+// The case of the next row; none where the input has not a whole one left.
+fn next(input: &mut impl Read) -> io::Result<Option<Case>> {
     let mut line = [0u8; LINE_BYTES];
-    let n = io::read_full(STDIN_FILENO, &mut line);
-    if n != LINE_BYTES {
-        return false;
+    match input.read_exact(&mut line) {
+        Ok(()) => Ok(Some(row::read(&line))),
+        Err(e) if e.kind() == ErrorKind::UnexpectedEof => Ok(None),
+        Err(e) => Err(e),
     }
-    running::run(number, row::read(&line));
-    true
 }
 
-fn main() {
-    let mut number: u32 = 0;
-    while number < MOST_ROWS {
-        if !next(number) {
-            return;
+fn main(rt: HostRuntime) -> io::Result<()> {
+    let mut input = rt.reader();
+    for number in 0..MOST_ROWS {
+        match next(&mut input)? {
+            Some(case) => running::run(&rt, number, &case)?,
+            None => break,
         }
-        number += 1;
     }
+    Ok(())
 }

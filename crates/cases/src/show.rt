@@ -1,47 +1,36 @@
-// The words and numbers of a line.
-use basics::Verdict;
+// The numbers of a line.
+use basics::{Refusal, Verdict};
+use std::{fmt, io};
 
-const STDOUT_FILENO: i32 = 1;
+// What a call answered, printed as its code and its place.
+#[derive(Clone, Copy)]
+pub(crate) struct Outcome(pub Result<(), Refusal>);
 
-pub(crate) fn text(s: &[u8]) {
-    io::write_all(STDOUT_FILENO, s);
-}
-
-pub(crate) fn number(n: usize) {
-    text(b" ");
-    io::print_decimal(STDOUT_FILENO, n as u64);
-}
-
-pub(crate) fn verdict(v: Verdict) {
-    let code = v.code;
-    number(code as usize);
-    number(v.place);
-}
-
-// Eight bytes as one number, the first byte highest.
-fn be64(bytes: &[u8; 32]) -> u64 {
-    let mut n: u64 = 0;
-    let mut p: usize = 0;
-    while p < 8 {
-        n = (n << 8) | basics::wide(bytes[p]) as u64;
-        p += 1;
+impl fmt::Display for Outcome {
+    fn fmt<W: fmt::Write>(&self, f: &mut fmt::Formatter<W>) -> fmt::Result {
+        let Verdict { code, place } = self.0.into();
+        write!(f, "{code} {place}")
     }
-    n
 }
 
-// The first eight bytes of a digest, in hexadecimal.
-pub(crate) fn digest(bytes: &[u8]) {
-    let mut all = [0u8; 32];
-    symmetric::hash(bytes, &mut all);
-    text(b" ");
-    io::print_hex(STDOUT_FILENO, be64(&all), 16);
+// Bytes, printed as the first eight of their digest, in hexadecimal.
+#[derive(Clone, Copy)]
+pub(crate) struct Digest<'a>(pub &'a [u8]);
+
+impl fmt::Display for Digest<'_> {
+    fn fmt<W: fmt::Write>(&self, f: &mut fmt::Formatter<W>) -> fmt::Result {
+        let mut all = [0u8; 32];
+        let _ = symmetric::hash(self.0, &mut all);
+        for byte in &all[..8] {
+            write!(f, "{byte:02x}")?;
+        }
+        Ok(())
+    }
 }
 
-pub(crate) fn listing(message: &[u8]) {
+// The listing of a message, by its length and its digest.
+pub(crate) fn listing(rt: &impl Print, message: &[u8]) -> io::Result<()> {
     let l = listing::list(message);
-    let text = l.text;
-    let len = l.len;
-    self::text(b" l");
-    number(len);
-    digest(&text[..len]);
+    let (text, len) = (l.text, l.len);
+    print!(rt; " l {len} {}", Digest(&text[..len]))
 }

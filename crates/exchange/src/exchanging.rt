@@ -1,12 +1,14 @@
 // An exchange by the rules (document 01, section 5): the steps of both parties in turn, each message delivered as it was sent.
+ghost use Rattle.basics.specs.Verdicts.{verdict};
 ghost use Rattle.exchange.specs.Exchanged.{Exchanged};
 
-use basics::Verdict;
+use basics::Refusal;
 use columns::SEED_BYTES;
 use wire::Shape;
 
 // The buyer holds two sets of seeds and its selections, the supplier its secret and its strings. `taken` is what the base transfers
 // leave to the supplier, `kept` stays with the buyer, and `message` and `answer` are what travels. Gives back the first refusal.
+// Each buffer is a parameter of its own: the contract `Exchanged` names them one by one, as the calls' own contracts do.
 pub(crate) fn exchange(
     s: Shape,
     session: &[u8],
@@ -20,17 +22,12 @@ pub(crate) fn exchange(
     kept: &mut [u8],
     answer: &mut [u8],
     opened: &mut [u8],
-) -> Verdict
-    ensures { Exchanged s.mode s.rows s.places s.bytes session.now first.now second.now selections.now secret.now strings.now taken.old message.old kept.old answer.old opened.old result opened.new }
+) -> Result<(), Refusal>
+    ensures { Exchanged s.mode s.rows s.places s.bytes session.now first.now second.now selections.now secret.now strings.now
+        taken.old message.old kept.old answer.old opened.old (verdict result) opened.new }
 {
     outside::take(SEED_BYTES, secret, first, second, taken);
-    let prepared = buyer::prepare_from_seeds(s, session, first, second, selections, message, kept);
-    if prepared.code != 0 {
-        return prepared;
-    }
-    let answered = supplier::answer_from_seeds(s, session, secret, taken, strings, message, answer);
-    if answered.code != 0 {
-        return answered;
-    }
+    buyer::prepare_from_seeds(s, session, first, second, selections, message, kept)?;
+    supplier::answer_from_seeds(s, session, secret, taken, strings, message, answer)?;
     buyer::open(s, session, selections, kept, answer, opened)
 }

@@ -8,9 +8,11 @@ mod show;
 mod symmetric_cases;
 mod words_cases;
 
-fn main() {
-    symmetric_cases::run();
-    words_cases::run();
-    message_cases::run();
-    prepare_cases::run();
+use std::io;
+
+fn main(rt: HostRuntime) -> io::Result<()> {
+    symmetric_cases::run(&rt)?;
+    words_cases::run(&rt)?;
+    message_cases::run(&rt)?;
+    prepare_cases::run(&rt)
 }

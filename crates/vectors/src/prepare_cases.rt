@@ -1,261 +1,205 @@
-// Prepare, from seeds and from columns: the run-only cases and P8 and P9 of document 01, section 9. Every output holds the byte 165
+// Prepare, from seeds and from columns: the run-only cases and P8 and P9 of document 01, section 9. Every output holds old bytes
 // before the call, so that the digests after a refusal show what it left.
-ghost use Rattle.io.specs.Counts.{IsPrefixLen};
-
-use crate::message_cases::{session, shape, verdict};
+use crate::message_cases::{SESSION, shape};
 use crate::show;
-use basics::Verdict;
-use wire::Shape;
+use crate::show::{Hex, OLD, Outcome, fill, front, front_mut};
+use std::io;
+use wire::{BLOCK_AT, CHOICES, Shape, TAG_COLUMNS};
 
 // What the message of 1,025 rows of choices would take, a row more than is lawful. No other buffer is longer.
 const ROOM: usize = 33051;
 
 const MOST_SELECTIONS: usize = 1025;
 
-const OLD: u8 = 165;
+// The seeds of a set of choices.
+const SEEDS_BYTES: usize = 8192;
 
-// The form of a case: seeds, the columns that those seeds expand to, or any other number, which the bytes of simple columns are
-// below; a small enough one leaves their padding zero.
-const SEEDS: usize = 251;
+// What the bytes of seeds are below.
+const SEED_MODULUS: usize = 251;
 
-const EXPANDED: usize = 0;
+// What the sets of a case are.
+#[derive(Clone, Copy, PartialEq, Eq)]
+enum Form {
+    Seeds,
+    // The columns that those seeds expand to; only sets of choices are run.
+    Expanded,
+    // Simple columns, whose bytes are below a number; a small enough one leaves their padding zero.
+    Below(usize),
+}
+
+use Form::{Below, Expanded, Seeds};
 
 // Columns with bytes of 0 and 1, whose padding is zero for any number of rows.
-const ONE_BIT: usize = 2;
+const ONE_BIT: Form = Below(2);
 
-// A row that no batch has.
-const NO_ROW: usize = 65536;
-
-// Byte i is (7 * (i % 251) + start) % modulus.
-fn fill(start: usize, modulus: usize, out: &mut [u8]) {
-    if modulus == 0 || 256 < modulus {
-        return;
+impl Form {
+    fn words(self) -> &'static str {
+        match self {
+            Seeds => "from seeds",
+            Expanded => "from the seeds' columns",
+            Below(_) => "from columns",
+        }
     }
-    let mut i: usize = 0;
-    while i < out.len() {
-        out[i] = ((7 * (i % 251) + start % 251) % modulus) as u8;
-        i += 1;
-    }
-}
 
-// A set of a form; of those expanded, only sets of choices are run.
-fn make_set(s: Shape, form: usize, start: usize, set: &mut [u8]) {
-    if form != EXPANDED {
-        fill(start, form, set);
-        return;
+    fn set_bytes(self, s: Shape) -> usize {
+        match self {
+            Seeds if s.mode == CHOICES => SEEDS_BYTES,
+            Seeds => SEEDS_BYTES / 2,
+            _ => wire::block_length(TAG_COLUMNS, s),
+        }
     }
-    let mut seeds = [0u8; 8192];
-    fill(start, SEEDS, &mut seeds);
-    columns::add_set(true, 256, s.rows, &session(), &seeds, set);
-}
 
-fn prepare(
-    s: Shape,
-    form: usize,
-    first: &[u8],
-    second: &[u8],
-    selections: &[u8],
-    message: &mut [u8],
-    kept: &mut [u8],
-) -> Verdict {
-    if form == SEEDS {
-        buyer::prepare_from_seeds(s, &session(), first, second, selections, message, kept)
-    } else {
-        buyer::prepare_from_columns(s, &session(), first, second, selections, message, kept)
+    fn make_set(self, s: Shape, start: usize, set: &mut [u8]) {
+        match self {
+            Seeds => fill(start, SEED_MODULUS, set),
+            Below(modulus) => fill(start, modulus, set),
+            Expanded => {
+                let mut seeds = [0u8; SEEDS_BYTES];
+                fill(start, SEED_MODULUS, &mut seeds);
+                columns::add_set(true, 256, s.rows, &SESSION, &seeds, set);
+            }
+        }
     }
 }
 
-fn digest(bytes: &[u8]) {
-    let mut all = [0u8; 32];
-    symmetric::hash(bytes, &mut all);
-    show::text(b" ");
-    show::hex(&all);
+// A selection that two rows, which may be the same, have in place of their own.
+#[derive(Clone, Copy)]
+struct Change {
+    selection: u8,
+    row: usize,
+    other_row: usize,
 }
 
-// Makes both sets in what is lent, and ends the line with the verdict and what both outputs hold.
-fn run_lent(
-    s: Shape,
-    form: usize,
-    first: &mut [u8],
-    second: &mut [u8],
-    selections: &[u8],
-    message: &mut [u8],
-    kept: &mut [u8],
-) {
-    make_set(s, form, 11, first);
-    make_set(s, form, 29, second);
-    verdict(prepare(s, form, first, second, selections, message, kept));
-    digest(message);
-    digest(kept);
-    show::text(b"\n");
-}
-
-// A length, or the buffer's room where that is less.
-fn cut(len: usize, bytes: &[u8]) -> usize
-    ensures { IsPrefixLen result bytes.now }
-{
-    if len < bytes.len() { len } else { bytes.len() }
-}
-
-fn set_bytes(s: Shape, form: usize) -> usize {
-    if form != SEEDS {
-        return wire::block_length(3, s);
+impl Change {
+    fn make(self, selections: &mut [u8]) {
+        for row in [self.row, self.other_row] {
+            if let Some(selection) = selections.get_mut(row) {
+                *selection = self.selection;
+            }
+        }
     }
-    if s.mode == 2 { 8192 } else { 4096 }
 }
 
 fn kept_bytes(s: Shape) -> usize {
-    let m = s.rows as usize;
-    if s.mode == 2 { m * 32 } else { m * 16 }
+    let m = usize::from(s.rows);
+    if s.mode == CHOICES { m * 32 } else { m * 16 }
 }
 
-// Lends each buffer at the length that the shape gives it, also where the shape is refused.
-fn lend(
-    s: Shape,
-    form: usize,
-    first: &mut [u8],
-    second: &mut [u8],
-    selections: &[u8],
-    message: &mut [u8],
-    kept: &mut [u8],
-) {
-    let a = cut(set_bytes(s, form), first);
-    let b = cut(set_bytes(s, form), second);
-    let m = cut(s.rows as usize, selections);
-    let d = cut(27 + wire::block_length(3, s), message);
-    let e = cut(kept_bytes(s), kept);
-    run_lent(
-        s,
-        form,
-        &mut first[..a],
-        &mut second[..b],
-        &selections[..m],
-        &mut message[..d],
-        &mut kept[..e],
-    );
+fn digest(bytes: &[u8]) -> [u8; 32] {
+    let mut all = [0u8; 32];
+    let _ = symmetric::hash(bytes, &mut all);
+    all
 }
 
-fn put(row: usize, selection: u8, selections: &mut [u8]) {
-    if row < selections.len() {
-        selections[row] = selection;
-    }
+fn name(rt: &impl Print, s: Shape, form: Form) -> io::Result<()> {
+    let words = form.words();
+    print!(rt;
+        "mode {} rows {} places {} bytes {} {words}",
+        s.mode, s.rows, s.places, s.bytes
+    )
 }
 
-fn name(s: Shape, form: usize) {
-    show::text(b"mode ");
-    show::number(s.mode as usize);
-    show::text(b" rows ");
-    show::number(s.rows as usize);
-    show::text(b" places ");
-    show::number(s.places as usize);
-    show::text(b" bytes ");
-    show::number(s.bytes as usize);
-    if form == SEEDS {
-        show::text(b" from seeds");
-        return;
-    }
-    if form == EXPANDED {
-        show::text(b" from the seeds' columns");
-    } else {
-        show::text(b" from columns");
-    }
-}
-
-// Runs a case whose rows select by the rule of the sets, below n, but for two of them, which may be the same.
-fn run_case(s: Shape, form: usize, row: usize, other_row: usize, selection: u8) {
-    name(s, form);
-    let mut first = [0u8; ROOM];
-    let mut second = [0u8; ROOM];
+// Selections by the rule of the sets, below n, but for those of a change.
+fn selections(places: u16, change: Option<Change>) -> [u8; MOST_SELECTIONS] {
     let mut selections = [0u8; MOST_SELECTIONS];
-    let mut message = [OLD; ROOM];
-    let mut kept = [OLD; ROOM];
-    fill(4, s.places as usize, &mut selections);
-    put(row, selection, &mut selections);
-    put(other_row, selection, &mut selections);
-    lend(
-        s,
-        form,
-        &mut first,
-        &mut second,
-        &selections,
-        &mut message,
-        &mut kept,
-    );
+    fill(4, usize::from(places), &mut selections);
+    if let Some(change) = change {
+        change.make(&mut selections);
+    }
+    selections
 }
 
-fn plain_line(s: Shape, form: usize) {
-    show::text(b"prepare ");
-    run_case(s, form, NO_ROW, NO_ROW, 0);
+// Runs a case. Each buffer is lent at the length that the shape gives it, also where the shape is refused.
+fn run_case(rt: &impl Print, s: Shape, form: Form, change: Option<Change>) -> io::Result<()> {
+    name(rt, s, form)?;
+    let selections = selections(s.places, change);
+    let selections = front(&selections, usize::from(s.rows));
+    let (mut first, mut second) = ([0u8; ROOM], [0u8; ROOM]);
+    let first = front_mut(&mut first, form.set_bytes(s));
+    form.make_set(s, 11, first);
+    let second = front_mut(&mut second, form.set_bytes(s));
+    form.make_set(s, 29, second);
+    let (mut message, mut kept) = ([OLD; ROOM], [OLD; ROOM]);
+    let message = front_mut(&mut message, BLOCK_AT + wire::block_length(TAG_COLUMNS, s));
+    let kept = front_mut(&mut kept, kept_bytes(s));
+    let v = if form == Seeds {
+        buyer::prepare_from_seeds(s, &SESSION, first, second, selections, message, kept)
+    } else {
+        buyer::prepare_from_columns(s, &SESSION, first, second, selections, message, kept)
+    };
+    let (sent, stays) = (digest(message), digest(kept));
+    println!(rt; " {} {} {}", Outcome(v), Hex(&sent), Hex(&stays))
 }
 
-fn both_forms(s: Shape, below: usize) {
-    plain_line(s, SEEDS);
-    plain_line(s, below);
+// A line for each form of a batch.
+fn plain_lines<const N: usize>(rt: &impl Print, s: Shape, forms: [Form; N]) -> io::Result<()> {
+    for form in forms {
+        print!(rt; "prepare ")?;
+        run_case(rt, s, form, None)?;
+    }
+    Ok(())
 }
 
 // The largest batches and the first that are too large, rows past each bound, and columns of one byte and of two, where the lines
 // from seeds and from the seeds' columns agree.
-fn shapes() {
-    both_forms(shape(2, 4, 256, 32), 16);
-    both_forms(shape(1, 1024, 2, 16), 256);
-    both_forms(shape(2, 5, 256, 32), 32);
-    both_forms(shape(1, 1024, 2, 17), 256);
-    both_forms(shape(1, 0, 2, 1), ONE_BIT);
-    both_forms(shape(1, 1025, 2, 1), ONE_BIT);
-    both_forms(shape(2, 0, 40, 1), ONE_BIT);
-    both_forms(shape(2, 1025, 40, 1), ONE_BIT);
-    both_forms(shape(2, 8, 40, 3), 256);
-    plain_line(shape(2, 8, 40, 3), EXPANDED);
-    both_forms(shape(2, 9, 40, 3), ONE_BIT);
-    plain_line(shape(2, 9, 40, 3), EXPANDED);
-}
-
-fn changed_line(s: Shape, form: usize, row: usize, other_row: usize, selection: u8) {
-    show::text(b"prepare with ");
-    show::number(selection as usize);
-    show::text(b" in rows ");
-    show::number(row);
-    show::text(b" and ");
-    show::number(other_row);
-    show::text(b", ");
-    run_case(s, form, row, other_row, selection);
+fn shapes(rt: &impl Print) -> io::Result<()> {
+    let cases = [
+        (shape(2, 4, 256, 32), Below(16)),
+        (shape(1, 1024, 2, 16), Below(256)),
+        (shape(2, 5, 256, 32), Below(32)),
+        (shape(1, 1024, 2, 17), Below(256)),
+        (shape(1, 0, 2, 1), ONE_BIT),
+        (shape(1, 1025, 2, 1), ONE_BIT),
+        (shape(2, 0, 40, 1), ONE_BIT),
+        (shape(2, 1025, 40, 1), ONE_BIT),
+    ];
+    for (s, form) in cases {
+        plain_lines(rt, s, [Seeds, form])?;
+    }
+    plain_lines(rt, shape(2, 8, 40, 3), [Seeds, Below(256), Expanded])?;
+    plain_lines(rt, shape(2, 9, 40, 3), [Seeds, ONE_BIT, Expanded])
 }
 
 // A selection in the first of nine rows, a middle one and the last, and in two rows, of which a refusal names the first.
-fn selections(s: Shape, form: usize, selection: u8) {
-    changed_line(s, form, 0, 0, selection);
-    changed_line(s, form, 4, 4, selection);
-    changed_line(s, form, 8, 8, selection);
-    changed_line(s, form, 3, 6, selection);
+fn changes(rt: &impl Print, s: Shape, form: Form, selection: u8) -> io::Result<()> {
+    for (row, other_row) in [(0, 0), (4, 4), (8, 8), (3, 6)] {
+        print!(rt; "prepare with {selection} in rows {row} and {other_row}, ")?;
+        let change = Change {
+            selection,
+            row,
+            other_row,
+        };
+        run_case(rt, s, form, Some(change))?;
+    }
+    Ok(())
 }
 
 // P8 and P9 byte for byte: the block, and the kept row.
-fn marked_examples() {
+fn marked_examples(rt: &impl Print) -> io::Result<()> {
     let columns = [0u8; 256];
-    let selections = [3u8];
     let mut message = [OLD; 283];
     let mut kept = [OLD; 32];
     let v = buyer::prepare_from_columns(
         shape(2, 1, 8, 1),
-        &session(),
+        &SESSION,
         &columns,
         &columns,
-        &selections,
+        &[3],
         &mut message,
         &mut kept,
     );
-    show::text(b"prepare P8");
-    show::outcome(v, &message[27..]);
-    show::text(b"prepare P9");
-    show::outcome(v, &kept);
+    print!(rt; "prepare P8")?;
+    show::end_line(rt, v, &message[BLOCK_AT..])?;
+    print!(rt; "prepare P9")?;
+    show::end_line(rt, v, &kept)
 }
 
-pub(crate) fn run() {
-    shapes();
+pub(crate) fn run(rt: &impl Print) -> io::Result<()> {
+    shapes(rt)?;
     // The last place, and one place too many.
-    selections(shape(1, 9, 2, 3), SEEDS, 1);
-    selections(shape(1, 9, 2, 3), ONE_BIT, 2);
-    selections(shape(2, 9, 40, 3), ONE_BIT, 39);
-    selections(shape(2, 9, 40, 3), SEEDS, 40);
-    marked_examples();
+    changes(rt, shape(1, 9, 2, 3), Seeds, 1)?;
+    changes(rt, shape(1, 9, 2, 3), ONE_BIT, 2)?;
+    changes(rt, shape(2, 9, 40, 3), ONE_BIT, 39)?;
+    changes(rt, shape(2, 9, 40, 3), Seeds, 40)?;
+    marked_examples(rt)
 }

@@ -1,0 +1,6 @@
+-- The bytes that were read are in the buffer.
+use Rattle.std.proofs.Common.{◌≤◌, length}
+use Rattle.lister.proofs.read_full.Given as goal
+
+abbrev pub invariant-loop : goal.invariant-loop
+invariant-loop g l = l.n ≤ length l.buffer
