@@ -15,6 +15,7 @@ const MOST_BYTES: usize = 32;
 const MOST_VOLUME: usize = 32768;
 
 // k. What goes by the mode stands in a function for each definition: `k_of` and `most_places` here, a word's width in `columns`.
+#[tactic(auto, using(std::proofs::lemmas::Bool::Decides::nat_tests), unfolding(crate::specs::Shapes::k_of))]
 pub fn columns_of(mode: u8) -> usize
     ensures { Width mode result }
 {
@@ -37,6 +38,7 @@ pub fn volume(s: Shape) -> usize
 
 // The length of the block that a tag and a shape give: k·c for columns, m·n·l for masked strings. Whatever the shape, it is far from what
 // a usize holds.
+#[tactic(auto, using(std::proofs::lemmas::Bool::Decides::nat_tests), unfolding(crate::specs::Shapes::block_length))]
 pub fn block_length(tag: u8, s: Shape) -> usize
     ensures { (result ≡ block_length tag s.mode s.rows s.places s.bytes) × (result < 2 ^ 40) }
 {
@@ -47,19 +49,21 @@ pub fn block_length(tag: u8, s: Shape) -> usize
     }
 }
 
+#[tactic(auto, using(std::proofs::lemmas::Bool::Decides::nat_tests))]
 fn most_places(mode: u8) -> usize
     ensures { result ≡ most_places mode }
 {
     if mode == CHOICES { 256 } else { 2 }
 }
 
+#[tactic(auto, using(std::proofs::lemmas::Bool::Decides::nat_tests))]
 fn is_within(low: usize, x: usize, high: usize) -> bool
     ensures { result ≡ within low x high }
 {
     low <= x && x <= high
 }
 
-// Refusals 1 to 5.
+// Refusals 1 to 5. Numbers are widened by `as`, which a clause sees through.
 pub fn judge_shape(s: Shape) -> Result<(), Refusal>
     ensures { verdict result ≡ verdict_of s }
 {

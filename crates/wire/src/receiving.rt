@@ -1,6 +1,6 @@
 // What operations ask of a received message (document 01, section 7), each field compared before the next step is taken.
 ghost use Rattle.std.specs.Prelude.{◌≡◌, ◌+◌, ◌*◌, ◌^◌, ◌<◌, ◌≤◌, length};
-ghost use Rattle.basics.specs.Verdicts.{at_first, number as number₀, verdict};
+ghost use Rattle.basics.specs.Verdicts.{at_first, number as number₀, pass, unless, verdict};
 ghost use Rattle.wire.specs.Message.{header_ok};
 ghost use Rattle.wire.specs.Received.{differs, padding_verdict, block_verdict, received};
 
@@ -37,6 +37,13 @@ pub fn has_header(message: &[u8], at: usize, tag: u8, len: usize) -> bool
         return false;
     }
     number(*high, *low) as usize == len
+}
+
+// Refusal 10 at a header that is not there.
+fn check_header(message: &[u8], at: usize, tag: u8, len: usize) -> Result<(), Refusal>
+    ensures { verdict result ≡ unless (header_ok message.now at tag len) 10 at pass }
+{
+    check(has_header(message, at, tag, len), Reason::Field, at)
 }
 
 // The refusal at the first byte of the value at `at` that is not that of the expected value of n bytes. n is told beside it, since a lent session may
@@ -79,11 +86,7 @@ fn check_block(tag: u8, len: usize, s: Shape, message: &[u8]) -> Result<(), Refu
     ensures { verdict result ≡ block_verdict tag len s.mode s.rows message.now }
 {
     let end = BLOCK_AT + len;
-    check(
-        has_header(message, BLOCK_HEADER_AT, tag, len),
-        Reason::Field,
-        BLOCK_HEADER_AT,
-    )?;
+    check_header(message, BLOCK_HEADER_AT, tag, len)?;
     check(message.len() == end, Reason::Field, end)?;
     check_padding(tag, s, message)
 }
@@ -92,11 +95,7 @@ fn check_block(tag: u8, len: usize, s: Shape, message: &[u8]) -> Result<(), Refu
 pub fn check_received(tag: u8, s: Shape, session: &[u8], message: &[u8]) -> Result<(), Refusal>
     ensures { verdict result ≡ received tag s.mode s.rows s.places s.bytes session.now message.now }
 {
-    check(
-        has_header(message, SHAPE_AT, TAG_SHAPE, SHAPE_BYTES),
-        Reason::Field,
-        SHAPE_AT,
-    )?;
+    check_header(message, SHAPE_AT, TAG_SHAPE, SHAPE_BYTES)?;
     compare(
         Reason::OtherShape,
         message,
@@ -104,11 +103,7 @@ pub fn check_received(tag: u8, s: Shape, session: &[u8], message: &[u8]) -> Resu
         &shape_bytes(s),
         SHAPE_BYTES,
     )?;
-    check(
-        has_header(message, SESSION_AT, TAG_SESSION, SESSION_BYTES),
-        Reason::Field,
-        SESSION_AT,
-    )?;
+    check_header(message, SESSION_AT, TAG_SESSION, SESSION_BYTES)?;
     compare(
         Reason::OtherSession,
         message,
