@@ -22,7 +22,8 @@ fn place_of(mode: u8, r: u8, i: usize) -> u8
     (words::selected_byte(mode, r, i / 8) >> (i % 8)) % 2
 }
 
-// How often one column is doubled to k.
+// How often one column is doubled to k: by the mode, as k is, since a logarithm of k would be longer.
+#[tactic(auto, using(std::proofs::lemmas::Bool::Decides::nat_tests), unfolding(words::specs::Code::code_of))]
 fn doublings(mode: u8) -> usize
     ensures { (2 ^ result ≡ k (code_of mode)) × (result ≤ 8) }
 {

@@ -13,8 +13,8 @@ use basics::Refusal;
 use columns::{add_set, gather_rows};
 use wire::{BLOCK_AT, Shape, TAG_COLUMNS, columns_of, write_header};
 
-// What the buyer lends to prepare, without the outputs. `seeded` says that the sets are seeds: it is what `columns::add_set` and `Prepared` take, and
-// so not an enum of two kinds of sets.
+// What the buyer lends to prepare, without the outputs: so what is asked of an output's length stands with each step that gets it.
+// `seeded` says that the sets are seeds: it is what `columns::add_set` and `Prepared` take, and so not an enum of two kinds of sets.
 #[derive(Clone, Copy)]
 pub(crate) struct Preparing<'a> {
     pub(crate) seeded: bool,

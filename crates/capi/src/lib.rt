@@ -1,6 +1,6 @@
 // The C library: thin exported functions over the public calls. A slice is a pointer and a length; a verdict is one number. Names, parameters and their order
 // are what C links, so a shape comes as four numbers and no buffers are gathered in a struct.
-#![tactic(auto)]
+#![tactic(auto, using(crate::proofs::Exports::exported))]
 
 ghost use Rattle.std.specs.Prelude.{◌≡◌, true, false, eqb, length};
 ghost use Rattle.basics.specs.Choice.{pick};

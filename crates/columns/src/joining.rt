@@ -50,7 +50,8 @@ fn eight_fit(rows: u16, width: u8, g: usize, eight: usize, others: usize, out: u
         && g < usize::from(width)
 }
 
-// Gives each row its byte g from eight columns and eight others; nothing where the lengths do not fit.
+// Gives each row its byte g from eight columns and eight others; nothing where the lengths do not fit. The numbers come in small types, each a parameter, since
+// the compiler makes a faster loop of them (`give_words`).
 pub fn join_eight(
     rows: u16,
     width: u8,

@@ -10,7 +10,7 @@ ghost use Rattle.columns.specs.Gathered.{gathered, given, rows_fit, RowBytes, Gi
 
 use wire::{CHOICES, column_bytes};
 
-// Byte number `byte` of each of eight columns of c bytes, as one number, the first column's lowest.
+// Byte number `byte` of each of eight columns of c bytes, as one number, the first column's lowest: gathered one by one, since the eight do not stand side by side.
 pub(crate) fn eight_bytes(c: usize, eight: &[u8], byte: usize) -> u64
     requires { (length eight.now ≡ 8 * c) × (byte < c) × (c < 65536) }
     ensures { result ≡ eight_bytes c eight.now byte }
@@ -23,6 +23,7 @@ pub(crate) fn eight_bytes(c: usize, eight: &[u8], byte: usize) -> u64
 }
 
 // Each bit of x at a place of the mask changes places with the bit `by` places above it, by three xors and no branch.
+#[tactic(auto, unfolding(crate::specs::Turned::swapped))]
 fn swap(x: u64, mask: u64, by: usize) -> u64
     requires { by < 64 }
     ensures { result ≡ swapped mask by x }
@@ -41,7 +42,7 @@ pub(crate) fn turn(w: u64) -> u64
     swap(pairs, 0x0000_0000_f0f0_f0f0, 28)
 }
 
-// Gives each of `count` rows, which are no more than eight, its byte g: row i has byte i of w.
+// Gives each of `count` rows, which are no more than eight, its byte g: row i has byte i of w. By a shift, as `byte_of` and the edit `msb_first` have it.
 fn give_word(w: u64, count: usize, width: usize, g: usize, out: &mut [u8])
     requires { (count ≤ 8) × (length out.old ≡ count * width) × (g < width) × (width < 256) }
     ensures { out.new ≡ given width g (byte_of w) out.old }
@@ -90,7 +91,8 @@ fn give_bytes(rows: u16, width: u8, g: usize, eight: &[u8], out: &mut [u8])
     give_words(rows, width, g, move |b| turn(eight_bytes(c, eight, b)), out);
 }
 
-// The bytes of a row, which are those of a code word.
+// The bytes of a row, which are those of a code word, as two numbers: a division of k would have to be shown to leave nothing over.
+#[tactic(auto, using(std::proofs::lemmas::Bool::Decides::nat_tests), unfolding(words::specs::Code::code_of))]
 pub fn row_bytes(mode: u8) -> usize
     ensures { RowBytes mode result }
 {
