@@ -15,7 +15,7 @@ pub struct Cursor {
     pub shape: Shape,
 }
 
-// What a step yields: a field with the cursor behind it, the end, or a refusal.
+// What a step yields: a field with the cursor behind it, the end, or a refusal. Document 01 names this form, the refusal as one of the cases.
 #[derive(Clone, Copy)]
 pub enum Step {
     Shape(Shape, Cursor),
@@ -34,7 +34,8 @@ pub enum Step {
     Refused(Refusal),
 }
 
-// What the walk of a whole message found. On a refusal the fields hold what stands in their places, and 0 past the message's end.
+// What the walk of a whole message found. On a refusal the fields hold what stands in their places, and 0 past the message's end: so they stand beside the
+// answer, as `Walks` has them, and not in its `Ok`.
 #[derive(Clone, Copy)]
 pub struct Walked {
     pub judged: Result<(), Refusal>,

@@ -64,7 +64,8 @@ fn has_block(message: &[u8], shape: Shape) -> bool
     is_block_tag(tag) && has_header(message, BLOCK_HEADER_AT, tag, block_length(tag, shape))
 }
 
-// Refusal 10 at field 1's header, or 1 to 5 of its value.
+// Refusal 10 at field 1's header, or 1 to 5 of its value. A header and the place of its refusal are written apart in this file: the edits
+// `value_judged_before_header` and `session_refused_at_its_value` hold each.
 fn judge_first(message: &[u8]) -> Result<(), Refusal>
     ensures { verdict result ≡ unless (header_ok message.now 0 1 6) 10 0 (verdict_of (shape_in message.now)) }
 {

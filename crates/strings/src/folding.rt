@@ -5,7 +5,7 @@ ghost use Rattle.strings.specs.Gathered.{Alone};
 
 use crate::shape::Shape;
 
-// Xors the second half onto the first, as far as it reaches.
+// Xors the second half onto the first, as far as it reaches. A loop of its own beside `basics::xor_into`: the edit `halves_anded` holds what it does.
 fn fold_half(front: &mut [u8], back: &[u8])
     requires { length back.now ≤ length front.old }
     ensures { front.new ≡ front.old ⊕ back.now }

@@ -6,7 +6,8 @@ ghost use Rattle.strings.specs.Gathered.{equal_mask, under, added, Alone};
 
 use crate::shape::Shape;
 
-// Where strings are left after the first that are held, those are fewer than 256, and none of them has this place.
+// Where strings are left after the first that are held, those are fewer than 256, and none of them has this place. A number and no Option: the mask made of it
+// is all zeros without a branch.
 const NO_PLACE: u8 = 255;
 
 // All ones where two bytes are equal, else 0: what the sum of 255 and their difference carries tells them apart.

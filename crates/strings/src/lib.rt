@@ -30,7 +30,8 @@ fn select_row(shape: Shape, r: u8, places: &[u8], row: &[u8], work: &mut [u8], o
     out.copy_from_slice(&work[..shape.bytes]);
 }
 
-// The selected string of every row. Workspace and places are made once for all rows.
+// The selected string of every row. Workspace and places are made once for all rows. `a` and `at` go on with the rows: as products of a counter each would
+// ask for a bound of its own.
 fn select_rows(shape: Shape, selections: &[u8], strings: &[u8], out: &mut [u8])
     requires { Fits (length selections.now) shape.strings shape.bytes (length selections.now) (length strings.now) (length out.old) }
     ensures { out.new ≡ selected (length selections.now) shape.strings shape.bytes selections.now strings.now }

@@ -1,4 +1,5 @@
-// The shape of the rows: how many strings a row has, how many bytes a string, and how many of the strings the workspace holds.
+// The shape of the rows: how many strings a row has, how many bytes a string, and how many of the strings the workspace holds. The workspace is lent apart from
+// it, so its length is asked by each step that gets it.
 ghost use Rattle.std.specs.Prelude.{◌≡◌, ◌*◌, ◌≤◌, ◌<◌};
 
 #[derive(Clone, Copy)]

@@ -1,4 +1,4 @@
-// What one call of answer is lent: the parts that its steps share.
+// What one call of answer is lent: the parts that its steps share. What is asked of the output's length stands with each step that gets it.
 ghost use Rattle.basics.specs.Bytes.{Bytes};
 
 use wire::Shape;

@@ -25,7 +25,7 @@ fn masked_word(mode: u8, r: u8, secret: &[u8]) -> [u8; 32]
     word
 }
 
-// A string of row j under its pad: `row` is q(j), `word` the place's word AND the secret.
+// The session is a slice, as it was lent, and so that `pads::mask` can judge it. A string of row j under its pad: `row` is q(j), `word` the place's word AND the secret.
 fn mask_string(session: &[u8], j: u32, row: &[u8], word: [u8; 32], string: &mut [u8])
     requires { (length session.now ≡ 12) × (length row.now ≤ 32) × (length string.old ≤ 32) }
     ensures { string.new ≡ string.old ⊕ pad_bytes session.now (length string.old) j (row.now ⊕ word) }
