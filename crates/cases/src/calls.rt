@@ -16,6 +16,7 @@ pub(crate) fn prepare(rt: &impl Print, case: &Case, b: &mut Buffers) -> io::Resu
     let selections = lender.lend(Buffer::Selections, &b.selections);
     let message = lender.lend_mut(Buffer::Message, &mut b.message);
     let kept = lender.lend_mut(Buffer::Kept, &mut b.kept);
+    // One of two calls, which C keeps apart.
     let v = if case.seeded {
         buyer::prepare_from_seeds(shape, session, first, second, selections, message, kept)
     } else {
@@ -35,6 +36,7 @@ pub(crate) fn answer(rt: &impl Print, case: &Case, b: &mut Buffers) -> io::Resul
     let received = lender.lend(Buffer::Message, &b.message);
     let answered = lender.lend_mut(Buffer::Answered, &mut b.answered);
     show::listing(rt, received)?;
+    // One of two calls, which C keeps apart.
     let v = if case.seeded {
         supplier::answer_from_seeds(shape, session, secret, taken, strings, received, answered)
     } else {

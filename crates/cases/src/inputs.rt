@@ -1,7 +1,8 @@
 // A case's inputs: one stream of bytes through the buffers, and then what makes them lawful (peer/CASES.md, "The procedure").
 use crate::buffers::Buffers;
-use crate::lending::{columns_of, entry_bytes, front_mut, row_bytes, set_bytes};
+use crate::lending::{columns_of, front_mut, row_bytes, set_bytes};
 use crate::row::{Case, Secret};
+use columns::entry_bytes;
 use wire::{SESSION_BYTES, Shape, column_bytes, volume};
 
 // The state before the first step of a stream of seed 0.
@@ -75,7 +76,7 @@ pub(crate) fn generate(number: u32, case: &Case, b: &mut Buffers) {
         clear_padding(s, &mut b.second);
     }
     outside::take(
-        entry_bytes(case.seeded, s),
+        entry_bytes(case.seeded, s.rows),
         &b.secret,
         &b.first,
         &b.second,

@@ -2,11 +2,10 @@
 ghost use Rattle.std.specs.Prelude.{◌≤◌};
 
 use crate::row::{Buffer, Call, Case, Lent};
-use wire::{BLOCK_AT, SESSION_BYTES, Shape, column_bytes, volume};
+use columns::entry_bytes;
+use wire::{BLOCK_AT, SESSION_BYTES, Shape, volume};
 
-const SEED_BYTES: usize = 32;
-
-// k, here also of a mode that is not lawful.
+// k, here also of a mode that is not lawful: peer/CASES.md has 256 for each but 1, and the layer 128 for each but 2.
 pub(crate) fn columns_of(mode: u8) -> usize
     ensures { result ≤ 256 }
 {
@@ -19,20 +18,10 @@ pub(crate) fn row_bytes(mode: u8) -> usize
     columns_of(mode) / 8
 }
 
-pub(crate) fn entry_bytes(seeded: bool, s: Shape) -> usize
-    ensures { result ≤ 8192 }
-{
-    if seeded {
-        SEED_BYTES
-    } else {
-        column_bytes(s.rows)
-    }
-}
-
 pub(crate) fn set_bytes(seeded: bool, s: Shape) -> usize
     ensures { result ≤ 2097152 }
 {
-    columns_of(s.mode) * entry_bytes(seeded, s)
+    columns_of(s.mode) * entry_bytes(seeded, s.rows)
 }
 
 // The shape of the message that a call sends or receives; one that is received has the inputs' shape.

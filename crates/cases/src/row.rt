@@ -178,7 +178,7 @@ pub(crate) fn read(line: &[u8; LINE_BYTES]) -> Case {
     let own = shape(n[0], n[1], n[2], n[3]);
     let other = shape(n[7], n[8], n[9], n[10]);
     // Number 6 adds up the calls that are given the other shape.
-    let given = |call: usize| if n[6] & call == 0 { own } else { other };
+    let given = |bit: usize| if n[6] & bit == 0 { own } else { other };
     Case {
         shape: own,
         prepare: given(1),

@@ -2,7 +2,7 @@
 use basics::{Refusal, Verdict};
 use std::{fmt, io};
 
-// What a call answered, printed as its code and its place.
+// What a call answered, printed as its code and its place. Each program's lines have their own words.
 #[derive(Clone, Copy)]
 pub(crate) struct Outcome(pub Result<(), Refusal>);
 

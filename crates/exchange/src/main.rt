@@ -17,6 +17,7 @@ const SHAPE: Shape = Shape {
     bytes: 8,
 };
 
+// Families, prices and selections stand apart: the supplier lends the prices as one string of bytes, and the buyer its selections as another.
 const FAMILIES: [&str; 4] = ["sheet", "pipe", "rod", "wire"];
 
 // The supplier's strings, in cents, a row for each family.

@@ -62,6 +62,7 @@ impl Case {
     }
 }
 
+// Two kinds of cases by name, a tag each.
 fn answers(mode: u8, rows: u16, places: u16, bytes: u8) -> Case {
     Case::whole(TAG_STRINGS, shape(mode, rows, places, bytes))
 }

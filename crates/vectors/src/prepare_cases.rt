@@ -3,6 +3,7 @@
 use crate::message_cases::{SESSION, shape};
 use crate::show;
 use crate::show::{Hex, OLD, Outcome, fill, front, front_mut};
+use columns::row_bytes;
 use std::io;
 use wire::{BLOCK_AT, CHOICES, Shape, TAG_COLUMNS};
 
@@ -81,8 +82,7 @@ impl Change {
 }
 
 fn kept_bytes(s: Shape) -> usize {
-    let m = usize::from(s.rows);
-    if s.mode == CHOICES { m * 32 } else { m * 16 }
+    usize::from(s.rows) * row_bytes(s.mode)
 }
 
 fn digest(bytes: &[u8]) -> [u8; 32] {
@@ -122,6 +122,7 @@ fn run_case(rt: &impl Print, s: Shape, form: Form, change: Option<Change>) -> io
     let (mut message, mut kept) = ([OLD; ROOM], [OLD; ROOM]);
     let message = front_mut(&mut message, BLOCK_AT + wire::block_length(TAG_COLUMNS, s));
     let kept = front_mut(&mut kept, kept_bytes(s));
+    // One of two calls, which C keeps apart.
     let v = if form == Seeds {
         buyer::prepare_from_seeds(s, &SESSION, first, second, selections, message, kept)
     } else {

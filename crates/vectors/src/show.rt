@@ -18,7 +18,7 @@ impl fmt::Display for Hex<'_> {
     }
 }
 
-// What a call answered, printed as its code and its place.
+// What a call answered, printed as its code and its place. Each program's lines have their own words.
 #[derive(Clone, Copy)]
 pub(crate) struct Outcome(pub Result<(), Refusal>);
 
