@@ -1,6 +1,6 @@
 use Rattle.basics.specs.Padding.{padded}
 use Rattle.basics.proofs.First.{Passed}
-use Rattle.basics.proofs.check_clear.Given as goal
+use Rattle.basics.proofs.first_padded.Given as goal
 
 -- no column before i has padding set
 abbrev pub invariant-loop-i : goal.invariant-loop-i
