@@ -1,6 +1,12 @@
-use Rattle.std.proofs.Common.{◌++◌, List, ℕ, drop, ap, ◌∙◌}
-use Rattle.basics.proofs.Fill.{over_min}
+use Rattle.std.proofs.Common.{refl, arith}
+use Rattle.basics.proofs.Fill.{filled_none, filled_more, filled_copy}
 use Rattle.basics.proofs.copy.Goals as goal
 
+pub loop-i-init : goal.loop-i-init
+loop-i-init c = filled_none _ _
+
+pub loop-i-preserved : goal.loop-i-preserved
+loop-i-preserved c = filled_more c.loop-i.invariant (omega arith) refl
+
 pub returns : goal.returns
-returns c = ap (λ (t : List ℕ). t ++ drop c.min-n.result c.args.out.now) c.copy_from_slice.ensures.after ∙ over_min _ _ c.min-n.ensures
+returns c = filled_copy _ c.loop-i.invariant (omega arith)
