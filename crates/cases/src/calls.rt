@@ -4,9 +4,8 @@ use crate::lending::Lender;
 use crate::row::{Buffer, Call, Case};
 use crate::show;
 use crate::show::{Digest, Outcome};
-use std::io;
 
-pub(crate) fn prepare(rt: &impl Print, case: &Case, b: &mut Buffers) -> io::Result<()> {
+pub(crate) fn prepare(rt: &impl Print, case: &Case, b: &mut Buffers) {
     let call = Call::Prepare;
     let lender = Lender { case, call };
     let shape = case.shape_of(call);
@@ -22,10 +21,10 @@ pub(crate) fn prepare(rt: &impl Print, case: &Case, b: &mut Buffers) -> io::Resu
     } else {
         buyer::prepare_from_columns(shape, session, first, second, selections, message, kept)
     };
-    print!(rt; " p {} {} {}", Outcome(v), Digest(message), Digest(kept))
+    let _ = print!(rt; " p {} {} {}", Outcome(v), Digest(message), Digest(kept));
 }
 
-pub(crate) fn answer(rt: &impl Print, case: &Case, b: &mut Buffers) -> io::Result<()> {
+pub(crate) fn answer(rt: &impl Print, case: &Case, b: &mut Buffers) {
     let call = Call::Answer;
     let lender = Lender { case, call };
     let shape = case.shape_of(call);
@@ -35,17 +34,17 @@ pub(crate) fn answer(rt: &impl Print, case: &Case, b: &mut Buffers) -> io::Resul
     let strings = lender.lend(Buffer::Strings, &b.strings);
     let received = lender.lend(Buffer::Message, &b.message);
     let answered = lender.lend_mut(Buffer::Answered, &mut b.answered);
-    show::listing(rt, received)?;
+    show::listing(rt, received);
     // One of two calls, which C keeps apart.
     let v = if case.seeded {
         supplier::answer_from_seeds(shape, session, secret, taken, strings, received, answered)
     } else {
         supplier::answer_from_columns(shape, session, secret, taken, strings, received, answered)
     };
-    print!(rt; " a {} {}", Outcome(v), Digest(answered))
+    let _ = print!(rt; " a {} {}", Outcome(v), Digest(answered));
 }
 
-pub(crate) fn open(rt: &impl Print, case: &Case, b: &mut Buffers) -> io::Result<()> {
+pub(crate) fn open(rt: &impl Print, case: &Case, b: &mut Buffers) {
     let call = Call::Open;
     let lender = Lender { case, call };
     let shape = case.shape_of(call);
@@ -54,7 +53,7 @@ pub(crate) fn open(rt: &impl Print, case: &Case, b: &mut Buffers) -> io::Result<
     let kept = lender.lend(Buffer::Kept, &b.kept);
     let received = lender.lend(Buffer::Answered, &b.answered);
     let opened = lender.lend_mut(Buffer::Opened, &mut b.opened);
-    show::listing(rt, received)?;
+    show::listing(rt, received);
     let v = buyer::open(shape, session, selections, kept, received, opened);
-    print!(rt; " o {} {}", Outcome(v), Digest(opened))
+    let _ = print!(rt; " o {} {}", Outcome(v), Digest(opened));
 }

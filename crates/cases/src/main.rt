@@ -11,29 +11,25 @@ mod running;
 mod show;
 
 use row::{Case, LINE_BYTES};
-use std::io;
-use std::io::{ErrorKind, Read};
+use std::io::Read;
 
 // Far more rows than there are.
 const MOST_ROWS: u32 = 65536;
 
-// The case of the next row; none where the input has not a whole one left.
-fn next(input: &mut impl Read) -> io::Result<Option<Case>> {
+// The case of the next row; none where the input has not a whole one left, or a read fails.
+fn next(input: &mut impl Read) -> Option<Case> {
     let mut line = [0u8; LINE_BYTES];
-    match input.read_exact(&mut line) {
-        Ok(()) => Ok(Some(row::read(&line))),
-        Err(e) if e.kind() == ErrorKind::UnexpectedEof => Ok(None),
-        Err(e) => Err(e),
-    }
+    input.read_exact(&mut line).ok()?;
+    Some(row::read(&line))
 }
 
-fn main(rt: HostRuntime) -> io::Result<()> {
-    let mut input = rt.reader();
+// What is printed is what is compared: a read that fails ends the input, and a write that fails is not reported.
+fn main(rt: HostRuntime) {
+    let mut input = rt.stdin();
     for number in 0..MOST_ROWS {
-        match next(&mut input)? {
-            Some(case) => running::run(&rt, number, &case)?,
+        match next(&mut input) {
+            Some(case) => running::run(&rt, number, &case),
             None => break,
         }
     }
-    Ok(())
 }

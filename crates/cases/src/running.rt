@@ -2,17 +2,16 @@
 use crate::buffers::Buffers;
 use crate::row::{Call, Case};
 use crate::{calls, inputs};
-use std::io;
 
-pub(crate) fn run(rt: &impl Print, number: u32, case: &Case) -> io::Result<()> {
+pub(crate) fn run(rt: &impl Print, number: u32, case: &Case) {
     let mut buffers = Buffers::new();
     inputs::generate(number, case, &mut buffers);
-    print!(rt; "case {number}")?;
+    let _ = print!(rt; "case {number}");
     buffers.poke(case, Call::Prepare);
-    calls::prepare(rt, case, &mut buffers)?;
+    calls::prepare(rt, case, &mut buffers);
     buffers.poke(case, Call::Answer);
-    calls::answer(rt, case, &mut buffers)?;
+    calls::answer(rt, case, &mut buffers);
     buffers.poke(case, Call::Open);
-    calls::open(rt, case, &mut buffers)?;
-    println!(rt;)
+    calls::open(rt, case, &mut buffers);
+    let _ = println!(rt;);
 }

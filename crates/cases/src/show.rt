@@ -1,6 +1,6 @@
 // The numbers of a line.
 use basics::{Refusal, Verdict};
-use std::{fmt, io};
+use std::fmt;
 
 // What a call answered, printed as its code and its place. Each program's lines have their own words.
 #[derive(Clone, Copy)]
@@ -29,8 +29,8 @@ impl fmt::Display for Digest<'_> {
 }
 
 // The listing of a message, by its length and its digest.
-pub(crate) fn listing(rt: &impl Print, message: &[u8]) -> io::Result<()> {
+pub(crate) fn listing(rt: &impl Print, message: &[u8]) {
     let l = listing::list(message);
     let (text, len) = (l.text, l.len);
-    print!(rt; " l {len} {}", Digest(&text[..len]))
+    let _ = print!(rt; " l {len} {}", Digest(&text[..len]));
 }

@@ -6,7 +6,6 @@ mod exchanging;
 mod printing;
 
 use exchanging::exchange;
-use std::io;
 use wire::Shape;
 
 // Four product families, five grades in each, eight bytes a price: m, n and l.
@@ -30,33 +29,31 @@ const PRICES: [[u8; 40]; 4] = [
 
 const SELECTIONS: [u8; 4] = [2, 0, 4, 1];
 
-fn show_prices(rt: &impl Print) -> io::Result<()> {
-    println!(rt; "The supplier's prices, in cents:")?;
-    println!(rt; "          grade 0 grade 1 grade 2 grade 3 grade 4")?;
+fn show_prices(rt: &impl Print) {
+    let _ = println!(rt; "The supplier's prices, in cents:");
+    let _ = println!(rt; "          grade 0 grade 1 grade 2 grade 3 grade 4");
     for (family, prices) in FAMILIES.iter().zip(&PRICES) {
-        print!(rt; "{family:9}")?;
-        rt.write_all(prices)?;
-        println!(rt;)?;
+        let _ = print!(rt; "{family:9}");
+        let _ = rt.write_all(prices);
+        let _ = println!(rt;);
     }
-    Ok(())
 }
 
-fn show_selections(rt: &impl Print) -> io::Result<()> {
-    print!(rt; "\nThe buyer selects the grades")?;
+fn show_selections(rt: &impl Print) {
+    let _ = print!(rt; "\nThe buyer selects the grades");
     for grade in SELECTIONS {
-        print!(rt; " {grade}")?;
+        let _ = print!(rt; " {grade}");
     }
-    println!(rt; ", one in each family.")
+    let _ = println!(rt; ", one in each family.");
 }
 
-fn show_opened(rt: &impl Print, opened: &[[u8; 8]; 4]) -> io::Result<()> {
-    println!(rt; "\nThe buyer opens:")?;
+fn show_opened(rt: &impl Print, opened: &[[u8; 8]; 4]) {
+    let _ = println!(rt; "\nThe buyer opens:");
     for ((family, grade), price) in FAMILIES.iter().zip(SELECTIONS).zip(opened) {
-        print!(rt; "{family:9}grade {grade}")?;
-        rt.write_all(price)?;
-        println!(rt;)?;
+        let _ = print!(rt; "{family:9}grade {grade}");
+        let _ = rt.write_all(price);
+        let _ = println!(rt;);
     }
-    Ok(())
 }
 
 // The session, both sets of seeds and the secret, which are drawn anew for each batch; here they are the same in every run.
@@ -82,9 +79,10 @@ fn draw() -> Drawn {
     drawn
 }
 
-fn main(rt: HostRuntime) -> io::Result<()> {
-    show_prices(&rt)?;
-    show_selections(&rt)?;
+// What is printed is what is compared, so a write that fails is not reported.
+fn main(rt: HostRuntime) {
+    show_prices(&rt);
+    show_selections(&rt);
     let drawn = draw();
     let mut taken = [0u8; 8192];
     let mut message = [0u8; 283];
@@ -105,8 +103,8 @@ fn main(rt: HostRuntime) -> io::Result<()> {
         &mut answer,
         opened.as_flattened_mut(),
     );
-    printing::message(&rt, "supplier", &message)?;
-    printing::message(&rt, "buyer", &answer)?;
+    printing::message(&rt, "supplier", &message);
+    printing::message(&rt, "buyer", &answer);
     match outcome {
         Ok(()) => show_opened(&rt, &opened),
         Err(refusal) => printing::refusal(&rt, refusal),

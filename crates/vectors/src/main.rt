@@ -8,11 +8,10 @@ mod show;
 mod symmetric_cases;
 mod words_cases;
 
-use std::io;
-
-fn main(rt: HostRuntime) -> io::Result<()> {
-    symmetric_cases::run(&rt)?;
-    words_cases::run(&rt)?;
-    message_cases::run(&rt)?;
-    prepare_cases::run(&rt)
+// What is printed is what is compared, so a write that fails is not reported.
+fn main(rt: HostRuntime) {
+    symmetric_cases::run(&rt);
+    words_cases::run(&rt);
+    message_cases::run(&rt);
+    prepare_cases::run(&rt);
 }

@@ -1,6 +1,5 @@
 // Messages of document 01, sections 6 to 8: what is listed of each, and what an operation says of a received one.
 use crate::show::Outcome;
-use std::io;
 use wire::{BLOCK_AT, Shape, TAG_COLUMNS, TAG_STRINGS};
 
 pub(crate) const SESSION: [u8; 12] = [0, 1, 2, 3, 4, 5, 6, 7, 8, 9, 10, 11];
@@ -71,22 +70,21 @@ fn columns(mode: u8, rows: u16, places: u16, bytes: u8) -> Case {
     Case::whole(TAG_COLUMNS, shape(mode, rows, places, bytes))
 }
 
-fn list_line(rt: &impl Print, name: &str, c: Case) -> io::Result<()> {
-    println!(rt; "list {name}")?;
+fn list_line(rt: &impl Print, name: &str, c: Case) {
+    let _ = println!(rt; "list {name}");
     let l = listing::list(c.build(&mut [0; ROOM]));
     let text = l.text;
-    rt.write_all(&text[..l.len])
+    let _ = rt.write_all(&text[..l.len]);
 }
 
-fn list_lines(rt: &impl Print, cases: &[(&str, Case)]) -> io::Result<()> {
+fn list_lines(rt: &impl Print, cases: &[(&str, Case)]) {
     for &(name, c) in cases {
-        list_line(rt, name, c)?;
+        list_line(rt, name, c);
     }
-    Ok(())
 }
 
 // Messages that are listed.
-fn whole_messages(rt: &impl Print) -> io::Result<()> {
+fn whole_messages(rt: &impl Print) {
     let cases = [
         ("example", answers(1, 1, 2, 1).set(27, 170)),
         ("columns of pairs", columns(1, 9, 2, 1)),
@@ -95,11 +93,11 @@ fn whole_messages(rt: &impl Print) -> io::Result<()> {
         ("longest answers of choices", answers(2, 4, 256, 32)),
         ("longest columns", columns(2, 1024, 2, 1)),
     ];
-    list_lines(rt, &cases)
+    list_lines(rt, &cases);
 }
 
 // Refusals 1 to 5.
-fn refused_shapes(rt: &impl Print) -> io::Result<()> {
+fn refused_shapes(rt: &impl Print) {
     let large_choices = answers(2, 5, 256, 32).cut(BLOCK_AT);
     let large_pairs = answers(1, 1024, 2, 17).cut(BLOCK_AT);
     let cases = [
@@ -116,11 +114,11 @@ fn refused_shapes(rt: &impl Print) -> io::Result<()> {
         ("1024 rows of 2 places of 17 bytes", large_pairs),
         ("mode 3 and rows 0", answers(3, 0, 2, 1)),
     ];
-    list_lines(rt, &cases)
+    list_lines(rt, &cases);
 }
 
 // Refusal 10 at each header.
-fn refused_fields(rt: &impl Print) -> io::Result<()> {
+fn refused_fields(rt: &impl Print) {
     let c = answers(1, 1, 2, 1);
     let cases = [
         ("nothing", c.cut(0)),
@@ -140,11 +138,11 @@ fn refused_fields(rt: &impl Print) -> io::Result<()> {
         ("block of length 258", c.set(25, 1)),
         ("one byte short", c.cut(28)),
     ];
-    list_lines(rt, &cases)
+    list_lines(rt, &cases);
 }
 
 // Bytes left over, and padding.
-fn refused_ends(rt: &impl Print) -> io::Result<()> {
+fn refused_ends(rt: &impl Print) {
     let longest = answers(1, 1024, 2, 16);
     let c = columns(1, 9, 2, 1);
     let padded = c.set(28, 2);
@@ -157,11 +155,11 @@ fn refused_ends(rt: &impl Print) -> io::Result<()> {
         ("padding, and one byte more", padded.cut(284)),
         ("row 8, and no padding", c.set(28, 1)),
     ];
-    list_lines(rt, &cases)
+    list_lines(rt, &cases);
 }
 
 // Refusals 10 to 13: what an operation that holds a shape and asks for a tag says of the message of a case.
-fn received_messages(rt: &impl Print) -> io::Result<()> {
+fn received_messages(rt: &impl Print) {
     let c = columns(2, 9, 41, 3);
     let a = answers(2, 9, 41, 3);
     let cases = [
@@ -185,15 +183,14 @@ fn received_messages(rt: &impl Print) -> io::Result<()> {
     ];
     for (name, tag, case) in cases {
         let v = wire::check_received(tag, c.shape, &SESSION, case.build(&mut [0; ROOM]));
-        println!(rt; "received {name} {}", Outcome(v))?;
+        let _ = println!(rt; "received {name} {}", Outcome(v));
     }
-    Ok(())
 }
 
-pub(crate) fn run(rt: &impl Print) -> io::Result<()> {
-    whole_messages(rt)?;
-    refused_shapes(rt)?;
-    refused_fields(rt)?;
-    refused_ends(rt)?;
-    received_messages(rt)
+pub(crate) fn run(rt: &impl Print) {
+    whole_messages(rt);
+    refused_shapes(rt);
+    refused_fields(rt);
+    refused_ends(rt);
+    received_messages(rt);
 }

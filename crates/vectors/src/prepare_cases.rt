@@ -4,7 +4,6 @@ use crate::message_cases::{SESSION, shape};
 use crate::show;
 use crate::show::{Hex, OLD, Outcome, fill, front, front_mut};
 use columns::row_bytes;
-use std::io;
 use wire::{BLOCK_AT, CHOICES, Shape, TAG_COLUMNS};
 
 // What the message of 1,025 rows of choices would take, a row more than is lawful. No other buffer is longer.
@@ -91,12 +90,12 @@ fn digest(bytes: &[u8]) -> [u8; 32] {
     all
 }
 
-fn name(rt: &impl Print, s: Shape, form: Form) -> io::Result<()> {
+fn name(rt: &impl Print, s: Shape, form: Form) {
     let words = form.words();
-    print!(rt;
+    let _ = print!(rt;
         "mode {} rows {} places {} bytes {} {words}",
         s.mode, s.rows, s.places, s.bytes
-    )
+    );
 }
 
 // Selections by the rule of the sets, below n, but for those of a change.
@@ -110,8 +109,8 @@ fn selections(places: u16, change: Option<Change>) -> [u8; MOST_SELECTIONS] {
 }
 
 // Runs a case. Each buffer is lent at the length that the shape gives it, also where the shape is refused.
-fn run_case(rt: &impl Print, s: Shape, form: Form, change: Option<Change>) -> io::Result<()> {
-    name(rt, s, form)?;
+fn run_case(rt: &impl Print, s: Shape, form: Form, change: Option<Change>) {
+    name(rt, s, form);
     let selections = selections(s.places, change);
     let selections = front(&selections, usize::from(s.rows));
     let (mut first, mut second) = ([0u8; ROOM], [0u8; ROOM]);
@@ -129,21 +128,20 @@ fn run_case(rt: &impl Print, s: Shape, form: Form, change: Option<Change>) -> io
         buyer::prepare_from_columns(s, &SESSION, first, second, selections, message, kept)
     };
     let (sent, stays) = (digest(message), digest(kept));
-    println!(rt; " {} {} {}", Outcome(v), Hex(&sent), Hex(&stays))
+    let _ = println!(rt; " {} {} {}", Outcome(v), Hex(&sent), Hex(&stays));
 }
 
 // A line for each form of a batch.
-fn plain_lines<const N: usize>(rt: &impl Print, s: Shape, forms: [Form; N]) -> io::Result<()> {
+fn plain_lines<const N: usize>(rt: &impl Print, s: Shape, forms: [Form; N]) {
     for form in forms {
-        print!(rt; "prepare ")?;
-        run_case(rt, s, form, None)?;
+        let _ = print!(rt; "prepare ");
+        run_case(rt, s, form, None);
     }
-    Ok(())
 }
 
 // The largest batches and the first that are too large, rows past each bound, and columns of one byte and of two, where the lines
 // from seeds and from the seeds' columns agree.
-fn shapes(rt: &impl Print) -> io::Result<()> {
+fn shapes(rt: &impl Print) {
     let cases = [
         (shape(2, 4, 256, 32), Below(16)),
         (shape(1, 1024, 2, 16), Below(256)),
@@ -155,28 +153,27 @@ fn shapes(rt: &impl Print) -> io::Result<()> {
         (shape(2, 1025, 40, 1), ONE_BIT),
     ];
     for (s, form) in cases {
-        plain_lines(rt, s, [Seeds, form])?;
+        plain_lines(rt, s, [Seeds, form]);
     }
-    plain_lines(rt, shape(2, 8, 40, 3), [Seeds, Below(256), Expanded])?;
-    plain_lines(rt, shape(2, 9, 40, 3), [Seeds, ONE_BIT, Expanded])
+    plain_lines(rt, shape(2, 8, 40, 3), [Seeds, Below(256), Expanded]);
+    plain_lines(rt, shape(2, 9, 40, 3), [Seeds, ONE_BIT, Expanded]);
 }
 
 // A selection in the first of nine rows, a middle one and the last, and in two rows, of which a refusal names the first.
-fn changes(rt: &impl Print, s: Shape, form: Form, selection: u8) -> io::Result<()> {
+fn changes(rt: &impl Print, s: Shape, form: Form, selection: u8) {
     for (row, other_row) in [(0, 0), (4, 4), (8, 8), (3, 6)] {
-        print!(rt; "prepare with {selection} in rows {row} and {other_row}, ")?;
+        let _ = print!(rt; "prepare with {selection} in rows {row} and {other_row}, ");
         let change = Change {
             selection,
             row,
             other_row,
         };
-        run_case(rt, s, form, Some(change))?;
+        run_case(rt, s, form, Some(change));
     }
-    Ok(())
 }
 
 // P8 and P9 byte for byte: the block, and the kept row.
-fn marked_examples(rt: &impl Print) -> io::Result<()> {
+fn marked_examples(rt: &impl Print) {
     let columns = [0u8; 256];
     let mut message = [OLD; 283];
     let mut kept = [OLD; 32];
@@ -189,18 +186,18 @@ fn marked_examples(rt: &impl Print) -> io::Result<()> {
         &mut message,
         &mut kept,
     );
-    print!(rt; "prepare P8")?;
-    show::end_line(rt, v, &message[BLOCK_AT..])?;
-    print!(rt; "prepare P9")?;
-    show::end_line(rt, v, &kept)
+    let _ = print!(rt; "prepare P8");
+    show::end_line(rt, v, &message[BLOCK_AT..]);
+    let _ = print!(rt; "prepare P9");
+    show::end_line(rt, v, &kept);
 }
 
-pub(crate) fn run(rt: &impl Print) -> io::Result<()> {
-    shapes(rt)?;
+pub(crate) fn run(rt: &impl Print) {
+    shapes(rt);
     // The last place, and one place too many.
-    changes(rt, shape(1, 9, 2, 3), Seeds, 1)?;
-    changes(rt, shape(1, 9, 2, 3), ONE_BIT, 2)?;
-    changes(rt, shape(2, 9, 40, 3), ONE_BIT, 39)?;
-    changes(rt, shape(2, 9, 40, 3), Seeds, 40)?;
-    marked_examples(rt)
+    changes(rt, shape(1, 9, 2, 3), Seeds, 1);
+    changes(rt, shape(1, 9, 2, 3), ONE_BIT, 2);
+    changes(rt, shape(2, 9, 40, 3), ONE_BIT, 39);
+    changes(rt, shape(2, 9, 40, 3), Seeds, 40);
+    marked_examples(rt);
 }

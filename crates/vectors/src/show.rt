@@ -1,6 +1,6 @@
 // Bytes in hexadecimal, verdicts, and what the modules make their inputs by.
 use basics::{Refusal, Verdict};
-use std::{fmt, io};
+use std::fmt;
 
 // What every byte of an output is before a call: a refusal leaves it so.
 pub(crate) const OLD: u8 = 165;
@@ -30,8 +30,8 @@ impl fmt::Display for Outcome {
 }
 
 // The end of a line: what a call answered, and what a lent output holds.
-pub(crate) fn end_line(rt: &impl Print, answer: Result<(), Refusal>, out: &[u8]) -> io::Result<()> {
-    println!(rt; " {} {}", Outcome(answer), Hex(out))
+pub(crate) fn end_line(rt: &impl Print, answer: Result<(), Refusal>, out: &[u8]) {
+    let _ = println!(rt; " {} {}", Outcome(answer), Hex(out));
 }
 
 // The first `len` bytes, or all where there are not so many. Two programs have these two; a crate for them would be longer than they are.
