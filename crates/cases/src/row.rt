@@ -1,4 +1,7 @@
 // A row of 21 small numbers, and the case that it stands for (peer/CASES.md, "A row").
+ghost use Rattle.std.specs.Prelude.{◌<◌};
+
+use basics::byte_or_zero;
 use wire::Shape;
 
 pub(crate) const LINE_BYTES: usize = 127;
@@ -7,8 +10,6 @@ const NUMBERS: usize = 21;
 
 // What a number and the comma after it take.
 const NUMBER_BYTES: usize = 6;
-
-const DIGITS: usize = 5;
 
 #[derive(Clone, Copy, PartialEq, Eq)]
 pub(crate) enum Call {
@@ -147,18 +148,26 @@ impl Case {
     }
 }
 
-// The digit of a byte; a space counts as 0, and what is no digit as its remainder.
-fn digit(byte: u8) -> usize {
-    usize::from(byte.saturating_sub(b'0') % 10)
+// The digit at a byte of a field; a space counts as 0, and what is no digit as its remainder.
+fn digit(field: &[u8], at: usize) -> usize
+    ensures { result < 10 }
+{
+    usize::from(byte_or_zero(field, at).saturating_sub(b'0') % 10)
 }
 
-// The numbers of a line, each in five columns.
+// The number in the five columns of a field.
+fn number(field: &[u8]) -> usize
+    ensures { result < 100000 }
+{
+    let high = digit(field, 0) * 10000 + digit(field, 1) * 1000;
+    high + digit(field, 2) * 100 + digit(field, 3) * 10 + digit(field, 4)
+}
+
+// The numbers of a line, a field each.
 fn numbers(line: &[u8; LINE_BYTES]) -> [usize; NUMBERS] {
     let mut numbers = [0usize; NUMBERS];
-    for (number, field) in numbers.iter_mut().zip(line.chunks(NUMBER_BYTES)) {
-        for byte in field.iter().take(DIGITS) {
-            *number = number.wrapping_mul(10).wrapping_add(digit(*byte));
-        }
+    for (out, field) in numbers.iter_mut().zip(line.chunks(NUMBER_BYTES)) {
+        *out = number(field);
     }
     numbers
 }
