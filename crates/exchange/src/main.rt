@@ -65,25 +65,27 @@ struct Drawn {
     secret: [u8; 32],
 }
 
-fn draw() -> Drawn {
-    let mut drawn = Drawn {
-        session: [0; 12],
-        first: [0; 8192],
-        second: [0; 8192],
-        secret: [0; 32],
-    };
-    let a = outside::draw(1, &mut drawn.session);
-    let b = outside::draw(a, &mut drawn.first);
-    let c = outside::draw(b, &mut drawn.second);
-    outside::draw(c, &mut drawn.secret);
-    drawn
+impl Drawn {
+    // Draws in place: by value the 16 KiB would be copied from frame to frame.
+    fn draw(&mut self) {
+        let a = outside::draw(1, &mut self.session);
+        let b = outside::draw(a, &mut self.first);
+        let c = outside::draw(b, &mut self.second);
+        outside::draw(c, &mut self.secret);
+    }
 }
 
 // What is printed is what is compared, so a write that fails is not reported.
 fn main(rt: HostRuntime) {
     show_prices(&rt);
     show_selections(&rt);
-    let drawn = draw();
+    let mut drawn = Drawn {
+        session: [0; 12],
+        first: [0; 8192],
+        second: [0; 8192],
+        secret: [0; 32],
+    };
+    drawn.draw();
     let mut taken = [0u8; 8192];
     let mut message = [0u8; 283];
     let mut kept = [0u8; 128];

@@ -187,6 +187,8 @@ fn received_messages(rt: &impl Print) {
     }
 }
 
+// Not inlined: its buffers would lie in the frame of `main`, below those of the other modules.
+#[inline(never)]
 pub(crate) fn run(rt: &impl Print) {
     whole_messages(rt);
     refused_shapes(rt);

@@ -65,6 +65,8 @@ fn every_word<F: Fn(u8, usize) -> u8>(rt: &impl Print, way: &str, byte: F)
     show::end_line(rt, v, &digest);
 }
 
+// Not inlined: its buffers would lie in the frame of `main`, below those of the other modules.
+#[inline(never)]
 pub(crate) fn run(rt: &impl Print) {
     single_words(rt);
     ends(rt);
