@@ -28,6 +28,10 @@ pub(crate) fn exchange(
 {
     outside::take(SEED_BYTES, secret, first, second, taken);
     buyer::prepare_from_seeds(s, session, first, second, selections, message, kept)?;
-    supplier::answer_from_seeds(s, session, secret, taken, strings, message, answer)?;
+    let answered = supplier::answer_from_seeds(s, session, secret, taken, strings, message, answer);
+    // Not by `?`, which leaves no refusal to name here: the must-fail edit `invented_place` gives it another place.
+    if let Err(refusal) = answered {
+        return Err(refusal);
+    }
     buyer::open(s, session, selections, kept, answer, opened)
 }

@@ -9,12 +9,10 @@ returns-in_err-prepare_from_seeds c =
     let p = err_from_is_err_and c.from_residual.result c.from_residual.ensures.1 in
     rw (p.1, p.2) (exchanged_prepare _ _ _ _ _ _ _ _ _ _ _ _ _ _ _ c.in_err-prepare_from_seeds.ensures (err_refuses c.in_err-prepare_from_seeds.field-0.0))
 
-pub returns-in_err-answer_from_seeds : goal.returns-in_err-answer_from_seeds
-returns-in_err-answer_from_seeds c =
-    let p = err_from_is_err_and c.from_residual-in_err-answer_from_seeds.result c.from_residual-in_err-answer_from_seeds.ensures.1 in
-    rw (p.1, p.2)
-    (exchanged_answer _ _ _ _ _ _ _ _ _ _ _ _ _ _ _ c.in_ok-prepare_from_seeds.ensures c.take.ensures c.in_err-answer_from_seeds.ensures refl (err_refuses c.in_err-answer_from_seeds.field-0.0))
+pub returns-in-Err : goal.returns-in-Err
+returns-in-Err c =
+    exchanged_answer _ _ _ _ _ _ _ _ _ _ _ _ _ _ _ c.in_ok-prepare_from_seeds.ensures c.take.ensures c.in-Err.ensures refl (err_refuses c.in-Err.refusal)
 
 pub returns : goal.returns
 returns c =
-    exchanged_open _ _ _ _ _ _ _ _ _ _ _ _ _ _ _ c.in_ok-prepare_from_seeds.ensures c.take.ensures c.in_ok-answer_from_seeds.ensures c.«open».ensures refl refl
+    exchanged_open _ _ _ _ _ _ _ _ _ _ _ _ _ _ _ c.in_ok-prepare_from_seeds.ensures c.take.ensures c.in_default.ensures c.«open».ensures refl refl
