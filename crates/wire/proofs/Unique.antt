@@ -2,7 +2,11 @@
 use mathlib.Core.Path.{◌≡◌, sym, ◌∙◌}
 use mathlib.Core.List.{List}
 use Prim.Native.Nat.{ℕ}
+use Rattle.std.specs.Prelude.{Result}
+use Rattle.basics.specs.declared.Refusal.{Refusal}
 use Rattle.basics.specs.declared.Verdict.{Verdict}
+use Rattle.basics.specs.Verdicts.{verdict}
+use Rattle.basics.proofs.Verdicts.{answer_unique}
 use Rattle.wire.specs.declared.Shape.{Shape}
 use Rattle.wire.specs.Shapes.{verdict_of, length_of, Width}
 use Rattle.wire.specs.Message.{header_written}
@@ -34,3 +38,18 @@ pub check_received_unique : (tag : ℕ) (s : Shape) (session message : List ℕ)
     → r₁ ≡ received tag s.mode s.rows s.places s.bytes session message
     → r₂ ≡ received tag s.mode s.rows s.places s.bytes session message → r₁ ≡ r₂
 check_received_unique tag s session message = same
+
+-- the same of what the calls answer, which is a refusal or success and no verdict
+
+pub judge_shape_answer_unique : (s : Shape) {a₁ a₂ : Result (Unit {0}) Refusal} → verdict a₁ ≡ verdict_of s → verdict a₂ ≡ verdict_of s → a₁ ≡ a₂
+judge_shape_answer_unique s {a₁} {a₂} p q = answer_unique a₁ a₂ (same p q)
+
+pub check_padding_answer_unique : (tag : ℕ) (s : Shape) (message : List ℕ) {a₁ a₂ : Result (Unit {0}) Refusal}
+    → verdict a₁ ≡ padding_verdict tag s.mode s.rows message
+    → verdict a₂ ≡ padding_verdict tag s.mode s.rows message → a₁ ≡ a₂
+check_padding_answer_unique tag s message {a₁} {a₂} p q = answer_unique a₁ a₂ (same p q)
+
+pub check_received_answer_unique : (tag : ℕ) (s : Shape) (session message : List ℕ) {a₁ a₂ : Result (Unit {0}) Refusal}
+    → verdict a₁ ≡ received tag s.mode s.rows s.places s.bytes session message
+    → verdict a₂ ≡ received tag s.mode s.rows s.places s.bytes session message → a₁ ≡ a₂
+check_received_answer_unique tag s session message {a₁} {a₂} p q = answer_unique a₁ a₂ (same p q)
