@@ -20,6 +20,7 @@ pub(crate) fn shape_bytes(s: Shape) -> [u8; 6]
 
 // Writes the shape field, the session field and the block's header into a part of 27 bytes. A part or a session of another length, or a length
 // of the block that two bytes do not hold, leaves the part as it is.
+#[tactic(auto, using(std::proofs::lemmas::Bool::Decides::nat_tests), unfolding(crate::specs::Message::header_written))]
 pub fn write_header(tag: u8, len: usize, s: Shape, session: &[u8], out: &mut [u8])
     ensures { out.new ≡ header_written tag len s.mode s.rows s.places s.bytes session.now out.old }
 {
