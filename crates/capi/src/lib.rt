@@ -160,6 +160,7 @@ pub extern "C" fn adw_open(
 }
 
 // The listing's bytes into a text buffer of 128, and their number; 0 where the buffer has another length, and it is then as it was.
+#[tactic(auto, using(std::proofs::lemmas::Bool::Decides::nat_tests))]
 #[unsafe(no_mangle)]
 pub extern "C" fn adw_list(message: &[u8], text: &mut [u8]) -> usize
     ensures { (result ≡ pick (eqb (length text.old) 128) (listed (listing_of message.now)).len 0) × (text.new ≡ pick (eqb (length text.old) 128) (listed (listing_of message.now)).text text.old) }
