@@ -66,6 +66,7 @@ impl Answering<'_> {
     }
 
     // Judges the call, and writes the message where nothing is refused.
+    #[tactic(auto, using(basics::proofs::Verdicts::gives_ok))]
     pub(crate) fn answer(&self, message: &mut [u8]) -> Result<(), Refusal>
         ensures { AnsweredBy self.now message.old (verdict result) message.new }
     {
