@@ -3,7 +3,7 @@ use mathlib.Core.Path.{◌≡◌, refl, sym, ap, ap₂, ◌∙◌}
 use mathlib.Core.Bool.{Bool, true, false}
 use mathlib.Core.List.{List, ◌++◌}
 use Prim.Native.Nat.{ℕ, zero, suc, ◌+◌, ◌-◌, ◌*◌, ◌/◌, ◌%◌, ◌^◌, ◌≤◌, ◌<◌, min}
-use native.Mathlib.Nat.{mod-lt, div-add-mod', div-lt_iff_lt-mul, add-zero, zero-add, zero-lt-suc, one-mul, mod-eq_of_lt, lt_of_le_of_lt, lt_of_lt_of_le}
+use native.Mathlib.Nat.{mod-lt, div-add-mod', div-lt_iff_lt-mul, add-zero, zero-add, zero-lt-suc, one-mul, mul-le-mul_right, mod-eq_of_lt, lt_of_le_of_lt, lt_of_lt_of_le}
 use native.Mathlib.Decide.{ℕ_discrete, dec_lt}
 use native.Mathlib.Omega.{arith}
 use lib.Arith.{digits_div, digits_mod}
@@ -107,6 +107,14 @@ place_more C sel i e {byte} {r} {place} hb he hr hp =
     let whole : place * 2 ^ e ≡ f e * 2 ^ e = ap (λ (x : ℕ). x * 2 ^ e) here in
     let kept : place * 2 ^ e % 256 ≡ place * 2 ^ e = mod-eq_of_lt (omega arith) in
     (omega arith, omega arith)
+
+-- and it leaves a byte, whichever row it is of
+pub place_fits : (C : Code) (sel : List ℕ) (i e : ℕ) {byte place : ℕ} → byte ≡ pack e (row_place C sel i) → e < 8 → place < 2 → byte + place * 2 ^ e % 256 < 256
+place_fits C sel i e {byte} {place} hb he hp =
+    let below : pack e (row_place C sel i) < 2 ^ e = pack_small e (row_place C sel i) (λ x. C.digit _ _) in
+    let most : place * 2 ^ e ≤ 1 * 2 ^ e = mul-le-mul_right (2 ^ e) (omega arith) in
+    let half : 2 ^ e ≤ 2 ^ 7 = pow_mono {j = 7} (omega arith) in
+    omega arith
 
 -- all eight
 pub places_all : (C : Code) (sel : List ℕ) (i : ℕ) {byte e : ℕ} → byte ≡ pack e (row_place C sel i) → e ≡ 8 → byte ≡ place_byte C sel 0 i
