@@ -3,8 +3,9 @@ use mathlib.Core.Path.{◌≡◌, refl, sym, ap, ap₂, ◌∙◌}
 use mathlib.Core.Bool.{Bool, true, false}
 use mathlib.Core.List.{List, ◌++◌}
 use Prim.Native.Nat.{ℕ, zero, suc, ◌+◌, ◌-◌, ◌*◌, ◌/◌, ◌%◌, ◌^◌, ◌≤◌, ◌<◌, min}
-use native.Mathlib.Nat.{mod-lt, div-add-mod', div-lt_iff_lt-mul, add-zero, zero-add, zero-lt-suc, one-mul, mul-le-mul_right, mod-eq_of_lt, lt_of_le_of_lt, lt_of_lt_of_le}
+use native.Mathlib.Nat.{mod-lt, div-add-mod', div-lt_iff_lt-mul, add-zero, zero-add, zero-lt-suc, one-mul, mul-le-mul_right, pow-suc, mod-eq_of_lt, lt_of_le_of_lt, lt_of_lt_of_le}
 use native.Mathlib.Decide.{ℕ_discrete, dec_lt}
+use native.Mathlib.Numerals.{add-one}
 use native.Mathlib.Omega.{arith}
 use lib.Arith.{digits_div, digits_mod}
 use lib.Bits.{bit_xor, bit_and, differ, and_zero_l, and_zero_r}
@@ -161,12 +162,15 @@ front_filled {f} {i} {n} {old} {now} z e =
     ap (λ (s : List ℕ). take n s) z.holds ∙ ap (λ (x : ℕ). take x (build i f ++ drop i old)) (sym e)
     ∙ take_at (build i f) (drop i old) i (length-build i f) ∙ ap (λ (x : ℕ). build x f) e
 
--- the first byte
+-- the first byte, and twice as many
 pub begins_one : (C : Code) (sel : List ℕ) (j v : ℕ) (s : List ℕ) → length s ≡ 256 → v ≡ place_byte C sel j 0 → Begins C sel j (2 ^ 0) (set s 0 v)
 begins_one C sel j v s h e = record {
   long = length-set s 0 v ∙ h;
   front = front_filled (filled_more (filled_none (place_byte C sel j) s) (omega arith) e) refl;
 }
+
+pub begins_twice : {C : Code} {sel s : List ℕ} {j : ℕ} (t : ℕ) → Begins C sel j (2 ^ t + 2 ^ t) s → Begins C sel j (2 ^ (t + 1)) s
+begins_twice {C} {sel} {s} {j} t z = rw (let e : 2 ^ (t + 1) ≡ 2 ^ t + 2 ^ t = ap (λ (x : ℕ). 2 ^ x) (add-one t) ∙ pow-suc 2 t ∙ omega arith in e) z
 
 pub begins_at : {C : Code} {sel s : List ℕ} {j n : ℕ} → Begins C sel j n s → (i : ℕ) → i < n → get_or s i 0 ≡ place_byte C sel j i
 begins_at {C} {sel} {s} {j} {n} z i h =
@@ -195,6 +199,14 @@ added_at f c b i old p = pick (eqb (p % c) b) (pick (ltb (p / c) i) (bit_xor (ge
 pub record Added (f : ℕ → ℕ) (c b i : ℕ) (old now : List ℕ) : Type 0 where
   pub long : length now ≡ length old
   pub byte : (p : ℕ) → get_or now p 0 ≡ added_at f c b i old p
+
+pub added_none : (f : ℕ → ℕ) (c b : ℕ) (old : List ℕ) → Added f c b 0 old old
+added_none f c b old = record {
+  long = refl;
+  byte = λ p. sym
+      (ap (λ (t : Bool). pick (eqb (p % c) b) (pick t (bit_xor (get_or old p 0) (f (p / c))) (get_or old p 0)) (get_or old p 0)) (le-ltb (p / c) 0 (omega arith))
+      ∙ pick_same (eqb (p % c) b) (get_or old p 0));
+}
 
 module _ {f : ℕ → ℕ} {c b i at v : ℕ} {old now : List ℕ} (z : Added f c b i old now) (hb : b < c) (ha : at ≡ i * c + b) (hl : at < length old) (hv : v ≡ bit_xor (get_or now at 0) (f i)) where
   at-mod : at % c ≡ b
@@ -259,6 +271,12 @@ below_at d c b old p = pick (ltb (p % c) b) (bit_xor (get_or old p 0) (get_or d 
 pub record Below (d : List ℕ) (c b : ℕ) (old now : List ℕ) : Type 0 where
   pub long : length now ≡ length old
   pub byte : (p : ℕ) → p < length old → get_or now p 0 ≡ below_at d c b old p
+
+pub below_none : (d : List ℕ) (c : ℕ) (old : List ℕ) → Below d c 0 old old
+below_none d c old = record {
+  long = refl;
+  byte = λ p h. sym (ap (λ (t : Bool). pick t (bit_xor (get_or old p 0) (get_or d p 0)) (get_or old p 0)) (le-ltb (p % c) 0 (omega arith)));
+}
 
 pub below_more : {d : List ℕ} {c b : ℕ} {old now next : List ℕ} (f : ℕ → ℕ) → Below d c b old now → next ≡ added_bytes c b f now
     → ((p : ℕ) → p < length old → p % c ≡ b → f (p / c) ≡ get_or d p 0) → Below d c (b + 1) old next

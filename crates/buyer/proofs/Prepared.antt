@@ -1,7 +1,7 @@
 -- How the block of the column message and the kept rows come about in the message's own bytes: ((0 xor V) xor D) xor U is U xor V xor D. Assumes nothing.
-use mathlib.Core.Path.{◌≡◌, sym, ap, ap₂, ◌∙◌}
+use mathlib.Core.Path.{◌≡◌, refl, sym, ap, ap₂, ◌∙◌}
 use mathlib.Core.Bool.{Bool, true}
-use mathlib.Core.List.{List, ◌++◌, append-nil}
+use mathlib.Core.List.{List, [], ◌++◌, append-nil}
 use Prim.Native.Nat.{ℕ, ◌+◌, ◌-◌, ◌*◌, ◌/◌, ◌≤◌}
 use native.Mathlib.Omega.{arith}
 use lib.ListN.{length, take, drop, length-append, length-take, length-drop, drop_of_length-le}
@@ -91,6 +91,10 @@ module _ (seeded : Bool) (mode m : ℕ) (session second selections old : List �
       xor_strings_comm (w ⊕ d) u (length-xor w d ∙ lw ∙ sym lu) ∙ sym (xor_strings_assoc u w d (lu ∙ sym lw))
 
 -- ---- the whole message
+
+-- the header h over the front of a message d
+pub header-put : (d h : List ℕ) → put_mid 0 27 d h ≡ h ++ drop 27 d
+header-put d h = put_next 0 27 [] d h refl
 
 pub length-put : (d h : List ℕ) → length h ≡ 27 → 27 ≤ length d → length (h ++ drop 27 d) ≡ length d
 length-put d h lh l = length-append h (drop 27 d) ∙ simp length-drop (omega arith)

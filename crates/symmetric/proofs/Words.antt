@@ -7,9 +7,14 @@ use Rattle.basics.specs.Bytes.{Bytes}
 use Rattle.basics.proofs.Bytes.{length-build}
 use Rattle.symmetric.specs.Words.{sums, big_endian, little_endian, serial}
 
--- two lists of four are equal where their elements are
+-- two lists of four are equal where their elements are, and two of eight
 pub four : {a b c d a' b' c' d' : ℕ} → a ≡ a' → b ≡ b' → c ≡ c' → d ≡ d' → a ∷ b ∷ c ∷ d ∷ [] ≡ a' ∷ b' ∷ c' ∷ d' ∷ []
 four p q r s = ap₂ ◌∷◌ p (ap₂ ◌∷◌ q (ap₂ ◌∷◌ r (ap₂ ◌∷◌ s refl)))
+
+pub eight : {a b c d e f g h a' b' c' d' e' f' g' h' : ℕ}
+    → a ≡ a' → b ≡ b' → c ≡ c' → d ≡ d' → e ≡ e' → f ≡ f' → g ≡ g' → h ≡ h'
+    → a ∷ b ∷ c ∷ d ∷ e ∷ f ∷ g ∷ h ∷ [] ≡ a' ∷ b' ∷ c' ∷ d' ∷ e' ∷ f' ∷ g' ∷ h' ∷ []
+eight p q r s t u v w = ap₂ ◌++◌ (four p q r s) (four t u v w)
 
 -- the sixteen words of four rows
 pub four_rows : {a b c d a' b' c' d' : List ℕ} → a ≡ a' → b ≡ b' → c ≡ c' → d ≡ d' → a ++ b ++ c ++ d ≡ a' ++ b' ++ c' ++ d'
