@@ -10,9 +10,11 @@ use borrow.Rule.Slice.PartMut.{put_mid}
 use Rattle.basics.specs.Choice.{pick}
 use Rattle.basics.specs.Bytes.{build, ◌⊕◌}
 use Rattle.basics.specs.Padding.{col_bytes}
+use Rattle.basics.specs.Verdicts.{pass}
 use Rattle.basics.proofs.Bytes.{length-xor, xor_strings_assoc, zeros-xor, xor_strings_comm}
 use Rattle.basics.proofs.Choice.{picked}
 use Rattle.basics.proofs.Fill.{put_next}
+use Rattle.basics.proofs.Verdicts.{gives_ok}
 use Rattle.words.specs.Code.{code_of}
 use Rattle.wire.specs.Shapes.{k_of}
 use Rattle.wire.specs.Message.{header, message_of}
@@ -22,9 +24,9 @@ use Rattle.construction.proofs.Bytewise.{length-message}
 use Rattle.columns.specs.Sets.{columns_of, entry_bytes, set_fit}
 use Rattle.columns.specs.Gathered.{rows_fit}
 use Rattle.columns.proofs.Sets.{SetFit, set_fit_passed, length-columns_of}
-use Rattle.buyer.specs.Prepare.{column_block, column_message, kept_columns, kept_rows}
+use Rattle.buyer.specs.Prepare.{prepare_verdict, column_block, column_message, kept_columns, kept_rows, Prepared}
 use Rattle.columns.proofs.Sizes.{k_of_lem, row_of}
-use Rattle.buyer.proofs.Judged.{Prepares}
+use Rattle.buyer.proofs.Judged.{Prepares, prepare_passed}
 
 -- ---- a lent set of the right length
 
@@ -134,3 +136,20 @@ module _ (seeded : Bool) (mode m n l : ℕ) (session first second selections : L
   message_made len block eb el =
       ap (λ (x : List ℕ). header 3 len mode m n l session ++ x) eb
       ∙ ap (λ (x : ℕ). header 3 x mode m n l session ++ column_block seeded mode m session first second selections) (el ∙ ap length eb)
+
+-- what prepare leaves where nothing is refused: the header in the message's front, the block behind it, and the kept rows
+pub prepared_written : {seeded : Bool} {mode m n l : ℕ} {session first second selections d old headed block kept : List ℕ}
+    → pass ≡ prepare_verdict seeded mode m n l session first second selections (length d) (length old)
+    → headed ≡ header 3 (length d - 27) mode m n l session ++ drop 27 d
+    → block ≡ column_block seeded mode m session first second selections → kept ≡ kept_rows seeded mode m session second selections
+    → Prepared seeded mode m n l session first second selections d old pass (put_mid 27 (length headed - 27) headed block) kept
+prepared_written {seeded} {mode} {m} {n} {l} {session} {first} {second} {selections} {d} {old} {headed} {block} v eh eb ek =
+    let z = prepare_passed v refl in
+    let long : length block ≡ k_of mode * col_bytes m = ap length eb ∙ length-column_block seeded mode m n l session first second selections z.lengths.first_long in
+    record {
+      sent = gives_ok v
+          (block-put d _ block eh (length-header 3 (length d - 27) mode m n l session z.lengths.session_long)
+          (omega (arith, z.lengths.message_long)) (omega (arith, z.lengths.message_long))
+          ∙ message_made seeded mode m n l session first second selections (length d - 27) block eb (omega (arith, z.lengths.message_long)));
+      rows = gives_ok v ek;
+    }

@@ -91,6 +91,7 @@ impl<'a> Preparing<'a> {
     }
 
     // Both forms of prepare.
+    #[tactic(auto, using(crate::proofs::Prepared::prepared_written))]
     pub(crate) fn prepare(self, message: &mut [u8], kept: &mut [u8]) -> Result<(), Refusal>
         ensures { Prepared self.entry.seeded self.entry.shape.mode self.entry.shape.rows self.entry.shape.places self.entry.shape.bytes
             self.entry.session.now self.entry.first.now self.entry.second.now self.entry.selections.now
