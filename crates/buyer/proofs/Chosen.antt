@@ -94,6 +94,14 @@ module _ (mode : ℕ) (sel : List ℕ) (j : ℕ) where
 abbrev pub row_place : Code → List ℕ → ℕ → ℕ → ℕ
 row_place C sel i x = C.word (get_or sel x 0) i
 
+-- one more place above those of the first e rows leaves a byte, whichever row it is of
+pub place_fits : (C : Code) (sel : List ℕ) (i e : ℕ) {byte place : ℕ} → byte ≡ pack e (row_place C sel i) → e < 8 → place < 2 → byte + place * 2 ^ e % 256 < 256
+place_fits C sel i e {byte} {place} hb he hp =
+    let below : pack e (row_place C sel i) < 2 ^ e = pack_small e (row_place C sel i) (λ x. C.digit _ _) in
+    let most : place * 2 ^ e ≤ 1 * 2 ^ e = mul-le-mul_right (2 ^ e) (omega arith) in
+    let half : 2 ^ e ≤ 2 ^ 7 = pow_mono {j = 7} (omega arith) in
+    omega arith
+
 -- one more row's place, above those of the first e rows
 pub place_more : (C : Code) (sel : List ℕ) (i e : ℕ) {byte r place : ℕ} → byte ≡ pack e (row_place C sel i) → e < 8
     → r ≡ get_or sel e 0 → place ≡ C.word r i
@@ -107,15 +115,7 @@ place_more C sel i e {byte} {r} {place} hb he hr hp =
     let few : pack (e + 1) f < 256 = lt_of_lt_of_le (pack_small (e + 1) f (λ x. C.digit _ _)) (pow_mono {j = 8} (omega arith)) in
     let whole : place * 2 ^ e ≡ f e * 2 ^ e = ap (λ (x : ℕ). x * 2 ^ e) here in
     let kept : place * 2 ^ e % 256 ≡ place * 2 ^ e = mod-eq_of_lt (omega arith) in
-    (omega arith, omega arith)
-
--- and it leaves a byte, whichever row it is of
-pub place_fits : (C : Code) (sel : List ℕ) (i e : ℕ) {byte place : ℕ} → byte ≡ pack e (row_place C sel i) → e < 8 → place < 2 → byte + place * 2 ^ e % 256 < 256
-place_fits C sel i e {byte} {place} hb he hp =
-    let below : pack e (row_place C sel i) < 2 ^ e = pack_small e (row_place C sel i) (λ x. C.digit _ _) in
-    let most : place * 2 ^ e ≤ 1 * 2 ^ e = mul-le-mul_right (2 ^ e) (omega arith) in
-    let half : 2 ^ e ≤ 2 ^ 7 = pow_mono {j = 7} (omega arith) in
-    omega arith
+    (omega arith, place_fits C sel i e hb he (omega (arith, C.digit r i)))
 
 -- all eight
 pub places_all : (C : Code) (sel : List ℕ) (i : ℕ) {byte e : ℕ} → byte ≡ pack e (row_place C sel i) → e ≡ 8 → byte ≡ place_byte C sel 0 i

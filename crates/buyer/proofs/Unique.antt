@@ -35,4 +35,4 @@ prepared_answer_unique {a₁ = a₁} {a₂ = a₂} p q = let e = prepared_unique
 module _ (mode m n l : ℕ) (session selections kept message : List ℕ) {old : List ℕ} {a₁ a₂ : Result (Unit {0}) Refusal} {now₁ now₂ : List ℕ} where
   pub opened_answer_unique : Opened mode m n l session selections kept message old (verdict a₁) now₁
       → Opened mode m n l session selections kept message old (verdict a₂) now₂ → (a₁ ≡ a₂) × (now₁ ≡ now₂)
-  opened_answer_unique p q = let e = gives_unique p q in (answer_unique a₁ a₂ e.0, e.1)
+  opened_answer_unique p q = let e = opened_unique mode m n l session selections kept message p q in (answer_unique a₁ a₂ e.0, e.1)
